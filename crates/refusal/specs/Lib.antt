@@ -1,0 +1,2 @@
+-- The definitions of crate `refusal`.
+pub mod Numbers
