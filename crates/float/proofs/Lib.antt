@@ -1,0 +1,3 @@
+mod DigitRoot
+mod Settling
+mod RootBits

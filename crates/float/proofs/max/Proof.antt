@@ -1,0 +1,19 @@
+-- `float::max` meets its contract: each arm returns what the definition picks where the tests are as the arm found them.
+use Rattle.float.specs.Rules.{max}
+use Rattle.float.proofs.max.Statement.{statement}
+use Rattle.float.proofs.max.Tie as tie
+
+returns : tie.Need-returns
+unfolding max
+returns c = cc
+
+returns-2 : tie.Need-returns-2
+unfolding max
+returns-2 c = cc
+
+returns-3 : tie.Need-returns-3
+unfolding max
+returns-3 c = cc
+
+pub max-spec : {M : Type 1} → statement M
+max-spec = tie.close (tie.spec returns returns-2 returns-3)

@@ -1,0 +1,10 @@
+-- The definitions of crate `float`, and the laws that other crates cite.
+pub mod Rules
+pub mod Quanta
+pub mod TotalOrder
+pub mod Root
+pub mod Order
+pub mod Patterns
+pub mod OrderTheorems
+pub mod RootTheorem
+pub mod Steps
