@@ -1,0 +1,217 @@
+//! The table of what was compared and how often it differed.
+
+use std::cmp::Ordering;
+use std::fmt;
+use std::process::ExitCode;
+
+/// How many differences of a kind are printed.
+const SHOWN: usize = 5;
+
+/// A value that is compared and printed.
+pub trait Value: Copy {
+    fn same(self, other: Self) -> bool;
+    fn text(self) -> String;
+}
+
+/// Floats are compared bit for bit, except that any NaN is any other.
+impl Value for f64 {
+    fn same(self, other: Self) -> bool {
+        self.to_bits() == other.to_bits() || self.is_nan() && other.is_nan()
+    }
+
+    fn text(self) -> String {
+        format!("{:016X} ({self:e})", self.to_bits())
+    }
+}
+
+impl Value for u64 {
+    fn same(self, other: Self) -> bool {
+        self == other
+    }
+
+    fn text(self) -> String {
+        format!("{self:016X}")
+    }
+}
+
+impl Value for bool {
+    fn same(self, other: Self) -> bool {
+        self == other
+    }
+
+    fn text(self) -> String {
+        self.to_string()
+    }
+}
+
+impl Value for Ordering {
+    fn same(self, other: Self) -> bool {
+        self == other
+    }
+
+    fn text(self) -> String {
+        format!("{self:?}")
+    }
+}
+
+/// One line of the table: a kind of comparison.
+pub struct Kind {
+    name: String,
+    compared: u64,
+    differed: u64,
+    shown: Vec<String>,
+}
+
+impl Kind {
+    pub fn new(name: impl Into<String>) -> Self {
+        Self {
+            name: name.into(),
+            compared: 0,
+            differed: 0,
+            shown: Vec::new(),
+        }
+    }
+
+    /// Compares what the engine gave for this input with what it should be.
+    #[inline]
+    pub fn compare<I: Value, R: Value>(&mut self, input: &[I], got: R, want: R) {
+        self.compared += 1;
+        if !got.same(want) {
+            self.differ(input, got, want);
+        }
+    }
+
+    #[cold]
+    fn differ<I: Value, R: Value>(&mut self, input: &[I], got: R, want: R) {
+        self.differed += 1;
+        if self.shown.len() < SHOWN {
+            let input: Vec<String> = input.iter().map(|v| v.text()).collect();
+            self.shown.push(format!(
+                "input {}: got {}, expected {}",
+                input.join(", "),
+                got.text(),
+                want.text()
+            ));
+        }
+    }
+}
+
+impl fmt::Display for Kind {
+    fn fmt(&self, f: &mut fmt::Formatter) -> fmt::Result {
+        let (name, compared, differed) = (&self.name, self.compared, self.differed);
+        write!(f, "{name:<52}{compared:>12}{differed:>12}")?;
+        if compared == 0 {
+            write!(f, "\n    nothing was compared")?;
+        }
+        for line in &self.shown {
+            write!(f, "\n    {line}")?;
+        }
+        Ok(())
+    }
+}
+
+/// The sums of the table. Each kind is printed as it is added.
+#[derive(Default)]
+pub struct Report {
+    kinds: u64,
+    compared: u64,
+    differed: u64,
+    empty: u64,
+}
+
+impl Report {
+    /// Prints the head of the table.
+    pub fn new() -> Self {
+        println!("{:<52}{:>12}{:>12}", "kind", "compared", "differed");
+        Self::default()
+    }
+
+    pub fn add(&mut self, kind: Kind) {
+        println!("{kind}");
+        self.kinds += 1;
+        self.compared += kind.compared;
+        self.differed += kind.differed;
+        self.empty += u64::from(kind.compared == 0);
+    }
+
+    /// Prints a count that is no comparison.
+    pub fn note(&self, text: fmt::Arguments) {
+        println!("    {text}");
+    }
+
+    /// Whether anything differed, or a kind had nothing to compare.
+    pub fn failed(&self) -> bool {
+        self.differed != 0 || self.empty != 0
+    }
+
+    /// Prints the totals and gives the exit status.
+    pub fn finish(self) -> ExitCode {
+        println!(
+            "total: {} kinds, {} compared, {} differed: {}",
+            self.kinds,
+            self.compared,
+            self.differed,
+            if self.failed() { "failed" } else { "passed" }
+        );
+        ExitCode::from(u8::from(self.failed()))
+    }
+}
+
+#[cfg(test)]
+mod tests {
+    use super::*;
+
+    fn report_of(kind: Kind) -> Report {
+        let mut report = Report::new();
+        report.add(kind);
+        report
+    }
+
+    fn kind_of(got: f64, want: f64) -> Kind {
+        let mut kind = Kind::new("test");
+        kind.compare(&[1.0], got, want);
+        kind
+    }
+
+    #[test]
+    fn a_difference_fails() {
+        assert!(report_of(kind_of(2.0, 3.0)).failed());
+        assert!(report_of(kind_of(0.0, -0.0)).failed());
+        assert!(report_of(kind_of(f64::NAN, 1.0)).failed());
+        let status = report_of(kind_of(2.0, 3.0)).finish();
+        assert_eq!(status, ExitCode::from(1));
+    }
+
+    #[test]
+    fn no_difference_passes() {
+        assert!(!report_of(kind_of(2.0, 2.0)).failed());
+        let other = f64::from_bits(0xFFF0_0000_0000_0001);
+        assert!(!report_of(kind_of(f64::NAN, other)).failed());
+        let status = report_of(kind_of(2.0, 2.0)).finish();
+        assert_eq!(status, ExitCode::SUCCESS);
+    }
+
+    #[test]
+    fn a_later_kind_does_not_hide_a_difference() {
+        let mut report = report_of(kind_of(2.0, 3.0));
+        report.add(kind_of(2.0, 2.0));
+        assert!(report.failed());
+    }
+
+    #[test]
+    fn a_kind_without_comparisons_fails() {
+        assert!(report_of(Kind::new("test")).failed());
+    }
+
+    #[test]
+    fn the_first_differences_are_shown_with_their_bits() {
+        let mut kind = kind_of(2.0, 3.0);
+        for _ in 0..9 {
+            kind.compare(&[1.0], 2.0, 3.0);
+        }
+        let text = kind.to_string();
+        assert_eq!(text.lines().count(), 1 + SHOWN);
+        assert!(text.contains("input 3FF0000000000000 (1e0): got 4000000000000000 (2e0)"));
+        assert!(text.contains("expected 4008000000000000 (3e0)"));
+    }
+}
