@@ -3,6 +3,7 @@ pub mod Rules
 pub mod Quanta
 pub mod TotalOrder
 pub mod Root
+pub mod Guess
 pub mod Order
 pub mod Patterns
 pub mod OrderTheorems

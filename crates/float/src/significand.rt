@@ -3,6 +3,7 @@
 // where neither the guess nor one of its neighbours is right, the root is worked out digit by digit.
 ghost use mathlib.Core.Path.{_≡_};
 ghost use Prim.Native.Nat.{_+_, _*_, _%_, _^_, _≤_, _<_};
+ghost use Rattle.float.specs.Guess as Guess;
 ghost use Rattle.float.specs.Root.{nearestRoot};
 ghost use Rattle.float.specs.Steps.{Finds};
 // What a look at a guess and its neighbours finds: the root, or that none of them is it.
@@ -13,14 +14,18 @@ pub enum Found {
 
 // A closer guess at 1 / root of x from a guess y, by Newton's rule; half is x / 2. It is written so
 // that the products do not wait for each other.
-fn closer(half: f64, y: f64) -> f64 {
+fn closer(half: f64, y: f64) -> f64
+    ensures { λ r. ⌜ r ≡ Guess.closer half y ⌝ }
+{
     1.5 * y - (half * y) * (y * y)
 }
 
 // A closer guess at the root of x from a guess s, with y for 1 / root. Adding 1.5 * 2^27 and taking
 // it off again leaves the first 26 digits of s, so that x - s * s is worked out from parts that are
 // exact.
-fn corrected(x: f64, s: f64, y: f64) -> f64 {
+fn corrected(x: f64, s: f64, y: f64) -> f64
+    ensures { λ r. ⌜ r ≡ Guess.corrected x s y ⌝ }
+{
     let front = (s + 201326592.0) - 201326592.0;
     let rest = s - front;
     let missing = (x - front * front) - (s + front) * rest;
@@ -28,8 +33,10 @@ fn corrected(x: f64, s: f64, y: f64) -> f64 {
 }
 
 // A guess at the root of 1.digits, or of twice that where `odd` is odd. It starts from 1 / root,
-// guessed by halving the exponent in the bit pattern. Nothing is promised of it.
-pub fn guess(digits: u64, odd: u64) -> f64 {
+// guessed by halving the exponent in the bit pattern. How close it comes is not promised.
+pub fn guess(digits: u64, odd: u64) -> f64
+    ensures { λ r. ⌜ r ≡ Guess.guess digits odd ⌝ }
+{
     let pattern = digits % 0x10_0000_0000_0000 + (1023 + odd % 2) * 0x10_0000_0000_0000;
     let x = f64::from_bits(pattern);
     let half = 0.5 * x;

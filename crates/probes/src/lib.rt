@@ -3,6 +3,7 @@ ghost use mathlib.Core.Path.{_≡_};
 ghost use Prim.Native.Nat.{_*_, _%_, _^_, _≤_, _<_};
 ghost use Rattle.float.specs.Rules as Rules;
 ghost use Rattle.float.specs.TotalOrder as TotalOrder;
+ghost use Rattle.float.specs.Guess as Guess;
 ghost use Rattle.float.specs.Root as Root;
 ghost use mathlib.Core.Logic.{_⊎_};
 use float::significand::Found;
@@ -58,7 +59,9 @@ pub extern "C" fn probe_order_key(x: f64) -> u64
 
 // The square root's guess at the root of a significand.
 #[no_mangle]
-pub extern "C" fn probe_guess(digits: u64, odd: u64) -> f64 {
+pub extern "C" fn probe_guess(digits: u64, odd: u64) -> f64
+    ensures { λ r. ⌜ r ≡ Guess.guess digits odd ⌝ }
+{
     float::significand::guess(digits, odd)
 }
 

@@ -1,5 +1,6 @@
--- `significand::guess` is safe: both patterns lie below that of +∞, so none is a NaN's.
+-- `significand::guess` meets its contract: both patterns lie below that of +∞, so none is a NaN's, and the steps are those of the definition.
 use native.Mathlib.Omega.{arith}
+use Rattle.float.specs.Guess.{guess}
 use Rattle.float.specs.Patterns.{number-pattern}
 use borrow.Author.Needs.{needs}
 use Rattle.float.proofs.significand.guess.Statement.{statement}
@@ -36,7 +37,8 @@ corrected-requires : tie.Need-corrected-requires
 corrected-requires c κs = search needs
 
 returns : tie.Need-returns
-returns c = search needs
+unfolding guess
+returns c = cc
 
 pub guess-spec : {M : Type 1} → statement M
 guess-spec =
