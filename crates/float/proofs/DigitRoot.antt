@@ -1,7 +1,7 @@
 -- The digit loop of the square root. After i digits the root so far is that of the first 2 i binary digits of w * 2^54, rounded down, with `over` left over:
 -- what these digits make is w * 4^i without `rest`, the digits still to come. Each turn takes two more digits of w and finds one more of the root.
 use mathlib.Core.Path.{_≡_, sym, ap, _∙_, subst}
-use Prim.Native.Nat.{ℕ, suc, _+_, _-_, _*_, _/_, _%_, _^_, _≤_, _<_}
+use Prim.Native.Nat.{ℕ, _+_, _-_, _*_, _/_, _%_, _^_, _≤_, _<_}
 use native.Mathlib.Nat.{pow-suc, lt-of-lt-of-le}
 use native.Mathlib.Numerals.{add-one}
 use native.Mathlib.Omega.{arith}

@@ -18,6 +18,7 @@ use lib.Ieee.Fits.{up-pos, and-l, and-r}
 use lib.Ieee.Bits.{is-false}
 use lib.Ieee.Scale.{finite}
 use Rattle.float.specs.Rules.{zero64, min, max}
+use Rattle.float.specs.Tests.{same, eq→eqb}
 use Compare.{Zero}
 
 -- ---- the words of the laws
@@ -230,7 +231,7 @@ zero-is (fin s m e) z = (tt, rw (eqb→eq m 0 z) (zero-mul (up e)))
 is-zero : (x : Float) → Zero x → T (isZero x)
 is-zero nan z = z .0
 is-zero (inf s) z = z .0
-is-zero (fin s m e) z = Compare.eq→eqb m 0 (Compare.none m (up e) (up-pos e) (z .1))
+is-zero (fin s m e) z = eq→eqb m 0 (Compare.none m (up e) (up-pos e) (z .1))
 
 -- zeros are at most each other
 zeros-le : (x y : Float) → T (isZero x) → T (isZero y) → T (le x y)
@@ -317,7 +318,7 @@ mul-alike f {x} {x'} {y} {y'} h k =
 
 -- a test R of order, which `le` on either side leaves true, is the same of floats that are alike
 test-alike : (R : Float → Float → Bool) → ((x y : Float) → T (R x y) → T (le x y)) → ((x' x y y' : Float) → T (le x' x) → T (R x y) → T (le y y') → T (R x' y')) → {x x' y y' : Float} → Alike x x' → Alike y y' → R x y ≡ R x' y'
-test-alike R to along {x} {x'} {y} {y'} h k = Compare.same (R x y) (R x' y') (go x x' y y' h k) (go x' x y' y (alike-sym h) (alike-sym k))
+test-alike R to along {x} {x'} {y} {y'} h k = same (R x y) (R x' y') (go x x' y y' h k) (go x' x y' y (alike-sym h) (alike-sym k))
   where
     go : (x x' y y' : Float) → Alike x x' → Alike y y' → T (R x y) → T (R x' y')
     go x x' y y' h k r = along x' x y y' (ge-alike (le-number-left x y (to x y r)) h) r (alike-le (le-number-right x y (to x y r)) k)

@@ -4,7 +4,7 @@ pub mod Value
 pub mod Pattern
 mod Key
 use mathlib.Core.Path.{_≡_, refl, sym, ap, _∙_}
-use Prim.Native.Nat.{ℕ, _*_, _^_, _<_}
+use Prim.Native.Nat.{ℕ, _*_, _%_, _^_, _≤_, _<_}
 use native.Mathlib.Nat.{lt-trans}
 use native.Mathlib.Omega.{arith}
 use mathlib.Core.Bool.{Bool, true, false, not, _&&_, _||_}
@@ -18,7 +18,8 @@ use Rattle.float.specs.Quanta.{quanta}
 use Signed.{by-order, total-key, total-le}
 use Value.{quanta-size, lt-places, eq-places, zeros-meet}
 use Pattern.{signBit, rest, of-pattern, lt-pattern}
-use Key.{keyOf-signed, keyOf-injective, keyOf-lt, pattern-le}
+use Key.{keyOf-signed, keyOf-injective, keyOf-lt}
+use Key
 
 -- The division in `quanta` is exact for a value of the format.
 pub quanta-val : (s : Bool) (m : ℕ) (e : ℤ) → T (fits binary64 (fin s m e)) → quanta (fin s m e) * down e ≡ m * up e * 2 ^ 1074
@@ -29,6 +30,10 @@ quanta-val s m e h =
 -- The sign is the highest bit of the pattern.
 pub sign-bit : (x : Float) → T (fits binary64 x) → T (not (isNan x)) → negative x ≡ leb (2 ^ 63) (toBits binary64 x)
 sign-bit x h n = of-pattern x h n .sign
+
+-- Without the sign no pattern of a number is above that of +∞.
+pub pattern-le : (x : Float) → T (fits binary64 x) → T (not (isNan x)) → toBits binary64 x % 2 ^ 63 ≤ 2047 * 2 ^ 52
+pattern-le x h n = Key.pattern-le x h n
 
 -- The key of a number is that of its bit pattern.
 pub key-pattern : (x : Float) → T (not (isNan x)) → orderKey x ≡ keyOf (toBits binary64 x)

@@ -6,27 +6,15 @@ use mathlib.Core.Bool.{Bool, true, false, not, _&&_, _||_, cond, and-true}
 use Prim.Native.Nat.{ℕ, _+_, _*_, _≤_, _<_}
 use native.Mathlib.Nat.{add-comm, zero-mul, mul-le-mul-right, le-of-mul-le-mul-right}
 use native.Mathlib.Omega.{arith}
-use lib.Dec.{T, leb, ltb, eqb, leb→le, le→leb, ltb→lt, nleb→lt, nltb→le, eqb→eq, eqb-refl}
+use lib.Dec.{T, leb, ltb, eqb, leb→le, le→leb, ltb→lt, nleb→lt, nltb→le, eqb→eq}
 use lib.Ieee.{Float, nan, inf, fin, up, down, below, level, lt, eq, le, neg, isNan}
 use lib.Ieee.Fits.{and-i, and-l, and-r}
 use lib.Ieee.Bits.{is-true}
 use lib.Ieee.Scale.{finite}
 use lib.Ieee.Positive.{num, den, den-pos}
+use Rattle.float.specs.Tests.{same, tests}
 
 -- ---- tests, and natural numbers
-
--- tests that pass in the same cases
-pub same : (a b : Bool) → (T a → T b) → (T b → T a) → a ≡ b
-same true true f g = refl
-same true false f g = absurd (f tt)
-same false true f g = absurd (g tt)
-same false false f g = refl
-
-pub eq→eqb : (a b : ℕ) → a ≡ b → T (eqb a b)
-eq→eqb a b p = rw p (eqb-refl b)
-
--- with these `omega` reads the tests of natural numbers and proves them
-ruleset tests = (leb→le, le→leb, eqb→eq, eq→eqb)
 
 or-is : (a b : ℕ) → (ltb a b || eqb a b) ≡ leb a b
 or-is a b = go (ltb a b) (ltb→lt a b) (nltb→le a b)

@@ -6,18 +6,9 @@ use native.Mathlib.Nat.{add-comm, zero-mul, mul-assoc, mul-right-comm, mul-pos, 
 use native.Mathlib.Omega.{arith}
 use mathlib.Core.Bool.{Bool, true, false, not, cond, _&&_, _||_, and-true, and-false}
 use borrow.Author.Tests.{lt-ltb, le-ltb, le-leb, lt-leb, eq-eqb, ne-eqb}
-use lib.Dec.{T, leb, ltb, eqb, ltb→lt, lt→ltb, leb→le, le→leb, nltb→le, not-T, eqb→eq, eqb·zero-suc, eqb·suc-zero}
+use lib.Dec.{T, leb, ltb, eqb, ltb→lt, lt→ltb, nltb→le, not-T, eqb→eq, eqb·zero-suc, eqb·suc-zero}
 use lib.Ieee.{below, level}
-
--- two tests that imply one another are the same
-same : (a b : Bool) → (T a → T b) → (T b → T a) → a ≡ b
-same true true p q = refl
-same true false p q = absurd (p tt)
-same false true p q = absurd (q tt)
-same false false p q = refl
-
--- linear arithmetic that reads and proves tests
-ruleset tests = (arith, leb→le, le→leb)
+use Rattle.float.specs.Tests.{same, tests}
 
 -- a and b are in one of three orders, and each gives the tests <, >, =, ≤, ≥ their values: what holds of all three rows holds of the tests
 pub by-order : (P : Bool → Bool → Bool → Bool → Bool → Type 0) → P true false false true false → P false true false false true → P false false true true true
@@ -92,10 +83,10 @@ abbrev pub moved : ℕ → Bool → ℕ → ℕ
 moved c s a = cond s (c - a) (c + a)
 
 pub below-moved : (c : ℕ) (s : Bool) (a : ℕ) (t : Bool) (b : ℕ) → a ≤ c → b ≤ c → below s a t b ≡ ltb (moved c s a) (moved c t b)
-below-moved c false a false b h k = same (ltb a b) (ltb (c + a) (c + b)) (omega tests) (omega tests)
+below-moved c false a false b h k = same (ltb a b) (ltb (c + a) (c + b)) (omega (arith, tests)) (omega (arith, tests))
 below-moved c false a true b h k = sym (le-ltb (c + a) (c - b) (omega arith))
-below-moved c true a false b h k = same (ltb 0 (a + b)) (ltb (c - a) (c + b)) (omega tests) (omega tests)
-below-moved c true a true b h k = same (ltb b a) (ltb (c - a) (c - b)) (omega tests) (omega tests)
+below-moved c true a false b h k = same (ltb 0 (a + b)) (ltb (c - a) (c + b)) (omega (arith, tests)) (omega (arith, tests))
+below-moved c true a true b h k = same (ltb b a) (ltb (c - a) (c - b)) (omega (arith, tests)) (omega (arith, tests))
 
 -- +a and -b are equal only at zero
 pub meet : (c : ℕ) (s : Bool) (a : ℕ) (t : Bool) (b : ℕ) → b ≤ c → T (not s) → T t → moved c s a ≡ moved c t b → (moved c s a ≡ c) × (moved c t b ≡ c)
@@ -124,13 +115,13 @@ keyed c s a = cond s (c - 1 - a) (c + a)
 
 pub total-key : (c : ℕ) (s : Bool) (a : ℕ) (t : Bool) (b : ℕ) → a < c → b < c → leb (keyed c s a) (keyed c t b) ≡ cond (below s a t b) true (cond (below t b s a) false (s || not t))
 total-key c false a false b h k =
-    same (leb (c + a) (c + b)) (leb a b) (omega tests) (omega tests) ∙ by-order (λ l m _ le _. le ≡ cond l true (cond m false true)) refl refl refl a b
+    same (leb (c + a) (c + b)) (leb a b) (omega (arith, tests)) (omega (arith, tests)) ∙ by-order (λ l m _ le _. le ≡ cond l true (cond m false true)) refl refl refl a b
 total-key c false a true b h k =
     lt-leb (c + a) (c - 1 - b) (omega arith) ∙ by-order (λ l _ _ _ _. false ≡ cond l false false) refl refl refl 0 (b + a)
 total-key c true a false b h k =
     le-leb (c - 1 - a) (c + b) (omega arith) ∙ by-order (λ l _ _ _ _. true ≡ cond l true true) refl refl refl 0 (a + b)
 total-key c true a true b h k =
-    same (leb (c - 1 - a) (c - 1 - b)) (leb b a) (omega tests) (omega tests) ∙ by-order (λ l m _ _ ge. ge ≡ cond m true (cond l false true)) refl refl refl a b
+    same (leb (c - 1 - a) (c - 1 - b)) (leb b a) (omega (arith, tests)) (omega (arith, tests)) ∙ by-order (λ l m _ _ ge. ge ≡ cond m true (cond l false true)) refl refl refl a b
 
 -- by two numbers p and q: it is their order, unless they are equal with the signs plus and minus
 pub total-le : (s t : Bool) (p q : ℕ) → (T (not s) → T t → p ≡ q → ⊥) → cond (ltb p q) true (cond (ltb q p) false (s || not t)) ≡ leb p q

@@ -1,7 +1,7 @@
 -- A value of the format is m * 2^j quanta with m below 2^53, so from 2^(52 + k) quanta on it is a multiple of 2^k. Hence beside r = q * 2^k, with q of 53 digits,
 -- every other value y is q - 1 steps of 2^k or fewer, or q + 1 or more, and the midpoint of y and r lies on y's side of the root of v * 4^k wherever q is nearest to the root of v.
 -- Below 2^(52 + k) the steps are finer, but there y is farther from r than 2^52 steps are, unless q is 2^52 itself, whose square is at most v.
-use mathlib.Core.Path.{_≡_, refl, sym, ap, _∙_, subst}
+use mathlib.Core.Path.{_≡_, sym, ap, _∙_, subst}
 use mathlib.Core.Bool.{Bool, true, false, not, _&&_}
 use Prim.Native.Nat.{ℕ, zero, suc, _+_, _-_, _*_, _/_, _%_, _^_, _≤_, _<_}
 use native.Mathlib.Nat.{le-trans, le-of-eq, le-of-lt, lt-of-lt-of-le, lt-of-le-of-lt, lt-irrefl, mul-le-mul-left, mul-le-mul-right, add-mul, mul-lt-mul-of-pos-right, lt-of-mul-lt-mul-right, mul-assoc, mul-one, mul-pos, mul-div-cancel, zero-mul, zero-div, sub-add-cancel, div-one, mul-mul-mul-comm}

@@ -14,7 +14,7 @@ use Rattle.float.specs.Quanta.{quanta}
 use Rattle.float.specs.TotalOrder.{negative}
 use Rattle.float.specs.Order.{finite-number, le-number-left, le-trans, le-antisym, le-top, le-not-lt, lt-le, lt-le-trans, lt-irrefl, eq-le}
 use Rattle.float.specs.OrderTheorems.Value.{lt-size}
-use Rattle.float.specs.Root.{root, IsNearestRoot}
+use Rattle.float.specs.Root.{root}
 use Rattle.float.specs.RootTheorem.Cases.{positive-sign, root-at-zero}
 use Rattle.float.specs.RootTheorem.Nearest.{sized, nearest-root}
 

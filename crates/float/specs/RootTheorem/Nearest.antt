@@ -1,29 +1,28 @@
 -- For a finite x above zero, x's quanta times 2^1074 are m * 2^g with an m of 53 digits, and so v * 4^k with v = m * 2^52 or m * 2^53. Its root is q * 2^k quanta, q the whole number
 -- nearest to the root of v (`rootOf-is`), and every other value of the format lies on the grid that `mid-below` and `mid-above` speak of.
 use mathlib.Core.Path.{_≡_, refl, sym, ap, _∙_, subst}
-use mathlib.Core.Bool.{Bool, true, false, not, true≢false}
+use mathlib.Core.Bool.{Bool, true, false, not}
 use Prim.Native.Nat.{ℕ, zero, suc, _+_, _-_, _*_, _/_, _%_, _^_, _≤_, _<_}
-use native.Mathlib.Nat.{le-trans, le-of-eq, lt-of-lt-of-le, lt-of-le-of-lt, lt-irrefl, mul-assoc, mul-comm, mul-pos, mul-le-mul-right, mul-lt-mul-of-pos-right, lt-of-mul-lt-mul-right, zero-mul, eq-zero-or-pos, sub-add-cancel, lt-suc-self}
+use native.Mathlib.Nat.{le-trans, le-of-eq, lt-of-lt-of-le, lt-of-le-of-lt, mul-assoc, mul-pos, mul-le-mul-right, mul-lt-mul-of-pos-right, lt-of-mul-lt-mul-right, zero-mul, lt-suc-self}
 use native.Mathlib.Omega.{arith}
-use lib.Dec.{T, ltb, ltb→lt, lt→ltb, lit<}
+use lib.Dec.{T, ltb→lt, lt→ltb}
 use lib.Pow.{pow-add, pow-pos, pow-mono}
 use lib.Ieee.{Float, nan, inf, fin, binary64, size, odd, fits, isNan, lt, below}
 use lib.Ieee.Digits.{size-lt, size-le, size-reaches}
 use lib.Ieee.Exact.{odd-sign}
 use lib.Ieee.Fits.{odd-fits}
 use lib.Ieee.Scale.{finite}
-use lib.Ieee.Bits.{is-true, is-false}
+use lib.Ieee.Bits.{is-true}
 use Rattle.float.specs.Rules.{zero64}
 use Rattle.float.specs.Quanta.{quanta}
 use Rattle.float.specs.TotalOrder.{negative}
-use Rattle.float.specs.Order.{finite-number}
 use Rattle.float.specs.OrderTheorems.Value.{Is, Size, of-finite, lt-size, quanta-size}
 use Rattle.float.specs.OrderTheorems.Pattern.{of-pattern}
-use Rattle.float.specs.Root.{root, rootOf, nearestRoot, IsNearestRoot}
+use Rattle.float.specs.Root.{root, nearestRoot, IsNearestRoot}
 use Rattle.float.specs.RootTheorem.Squares.{Nearest, nearest-low, nearest-high, nearestRoot-nearest}
 use Rattle.float.specs.RootTheorem.Scale.{scaled-range, rootOf-is, moved-up, pow-cancel}
 use Rattle.float.specs.RootTheorem.Grid.{OnGrid, quanta-grid, quanta-odd, mid-below, mid-above}
-use Rattle.float.specs.RootTheorem.Cases.{root-positive, positive-sign}
+use Rattle.float.specs.RootTheorem.Cases.{root-positive}
 
 -- ---- 53 digits
 -- a number of at most 53 digits, moved up to have 53

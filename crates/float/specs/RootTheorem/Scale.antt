@@ -1,13 +1,13 @@
 -- Where n quanta are m * 2^g / 2^1074 with an m of 53 binary digits, the root of n quanta is that of m * 2^52, or of m * 2^53 where g is odd,
 -- to the nearest whole number, and (g - 52) / 2 zeros after it: n * 2^1074 has 53 + g digits, and the even number of zeros that `rootOf` cuts off leaves 52 or 53.
-use mathlib.Core.Path.{_≡_, refl, sym, ap, _∙_, subst}
+use mathlib.Core.Path.{_≡_, refl, sym, ap, _∙_}
 use mathlib.Core.Bool.{false}
 use Prim.Native.Nat.{ℕ, zero, suc, _+_, _-_, _*_, _/_, _%_, _^_, _≤_, _<_}
 use native.Mathlib.Nat.{le-antisymm, le-trans, le-of-eq, lt-of-lt-of-le, not-le-of-lt, lt-of-not-le, mul-le-mul-right, mul-lt-mul-of-pos-right, mul-assoc, mul-div-cancel, mod-lt, pow-suc}
 use native.Mathlib.Omega.{arith}
 use lib.Dec.{lit<}
 use lib.Pow.{pow-add, pow-pos, pow-mono}
-use lib.Ieee.{Float, size, odd}
+use lib.Ieee.{size, odd}
 use lib.Ieee.Digits.{size-lt, size-le}
 use Rattle.float.specs.Root.{rootOf, nearestRoot}
 

@@ -1,10 +1,9 @@
 -- `nearestRoot v` is the whole number nearest to the root of v: q with (q - 1/2)^2 < v < (q + 1/2)^2, which among whole numbers is q^2 - q < v ≤ q^2 + q.
 -- By induction on the digits `isqrt` is the root rounded down, and half the root of 4 v is then the root of v to the nearest. One q at most has the property.
-use mathlib.Core.Path.{_≡_, refl, sym, ap, subst}
-use mathlib.Core.Logic.{inl, inr}
+use mathlib.Core.Path.{_≡_, sym, subst}
 use mathlib.Core.Bool.{Bool, true, false, not, cond}
 use Prim.Native.Nat.{ℕ, zero, suc, _+_, _-_, _*_, _/_, _%_, _^_, _≤_, _<_}
-use native.Mathlib.Nat.{eq-or-lt-of-le, le-antisymm, lt-of-not-le, le-of-lt, mul-le-mul, mul-le-mul-right, mul-comm, pow-suc, div-lt-iff-lt-mul}
+use native.Mathlib.Nat.{le-antisymm, mul-le-mul-right, pow-suc, div-lt-iff-lt-mul}
 use native.Mathlib.Omega.{arith}
 use lib.Dec.{T, leb, leb→le, nleb→lt, lit<}
 use Rattle.float.specs.Root.{digit, isqrt, nearestRoot}

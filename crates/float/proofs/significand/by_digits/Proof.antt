@@ -1,5 +1,5 @@
 -- `significand::by_digits` meets its contract. The invariant: at most 54 digits are found, and they are the first of the root (`Digits`). The measure is the digits still to find.
-use Prim.Native.Nat.{ℕ, _+_, _-_, _*_, _/_, _%_, _^_, _≤_, _<_}
+use Prim.Native.Nat.{ℕ, _-_, _%_, _^_, _≤_}
 use mathlib.Core.Path.{_≡_, subst}
 use mathlib.Core.Logic.{⊎-elim}
 use native.Mathlib.Omega.{arith}

@@ -1,6 +1,6 @@
 -- `sqrt::scaled_root` meets its contract: the root has 53 digits, so with the exponent's field it makes a pattern below that of +∞, which is read as the root (`normal-pattern`).
-use mathlib.Core.Path.{_≡_, sym, ap, _∙_, subst}
-use Prim.Native.Nat.{ℕ, _+_, _-_, _*_, _/_, _%_, _^_, _≤_, _<_}
+use mathlib.Core.Path.{sym, ap, _∙_, subst}
+use Prim.Native.Nat.{ℕ, _+_, _-_, _/_, _%_, _^_, _≤_, _<_}
 use native.Mathlib.Omega.{arith}
 use lib.Ieee.{odd}
 use Rattle.float.specs.Patterns.{number-pattern}
