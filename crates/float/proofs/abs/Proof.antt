@@ -1,5 +1,5 @@
 -- `float::abs` meets its contract. The patterns of x and of |x| differ by the weight of the sign at most, and that of |x| is below it, so it is the remainder of x's pattern.
--- Reading back the pattern of |x| gives |x|, which is no NaN.
+-- Reading back the pattern of |x| gives |x|. Without its sign no pattern of a number is above that of +∞, so it is no NaN's.
 use mathlib.Core.Path.{_≡_, refl, sym, ap, _∙_}
 use Prim.Native.Nat.{ℕ, zero, suc, _+_, _<_, _%_, _^_}
 use native.Mathlib.Omega.{arith}
@@ -7,11 +7,12 @@ use mathlib.Core.Bool.{Bool, true, false, not, cond}
 use borrow.Author.Tests.{leb-false}
 use lib.Dec.{T}
 use lib.Ieee.{Float, nan, inf, fin, binary64, fits, isNan, toBits, ofBits}
-use lib.Ieee.Bits.{ofBits-toBits, nanBits-is}
+use lib.Arith.{le→nltb}
+use lib.Ieee.Bits.{ofBits-toBits, toBits-lt, nanBits-above}
 use denote.Floats.{passes}
 use Rattle.float.specs.Rules.{abs}
 use Rattle.float.specs.TotalOrder.{negative}
-use Rattle.float.specs.OrderTheorems.{sign-bit}
+use Rattle.float.specs.OrderTheorems.{sign-bit, pattern-le}
 use Rattle.float.specs.Patterns.{is-nan, no-nan}
 use Rattle.float.proofs.abs.Statement.{statement}
 use Rattle.float.proofs.abs.Tie as tie
@@ -38,12 +39,6 @@ abs-pattern (fin s m e) h n = unsigned s _ _ (leb-false (2 ^ 63) (toBits binary6
 abs-bits : (x : Float) → T (fits binary64 x) → T (not (isNan x)) → ofBits binary64 (toBits binary64 x % 2 ^ 63) ≡ abs x
 abs-bits x h n = ap (ofBits binary64) (abs-pattern x h n) ∙ ofBits-toBits binary64 (abs x) (abs-fits x h)
 
-abs-number : (x : Float) → T (not (isNan x)) → T (not (isNan (abs x)))
-unfolding abs isNan
-abs-number nan n = absurd n
-abs-number (inf s) n = tt
-abs-number (fin s m e) n = tt
-
 returns : tie.Need-returns
 unfolding abs
 returns c = rw (is-nan (c .before .args .x) (c .if1 .taken))
@@ -54,8 +49,9 @@ float-to-bits-result c = no-nan (c .before .args .x) (c .if1 .left)
 float-from-bits-result : tie.Need-float-from-bits-result
 float-from-bits-result c =
     let x = c .before .args .x in
+    let h = passes (fits binary64 x) (c .before .good .0 .1) in
     let n = no-nan x (c .if1 .left) in
-    rw (nanBits-is binary64 (toBits binary64 x % 2 ^ 63), abs-bits x (passes (fits binary64 x) (c .before .good .0 .1)) n) (abs-number x n)
+    rw (nanBits-above binary64 _) (omega (arith, le→nltb, toBits-lt binary64 x h, pattern-le x h n))
 
 returns-2 : tie.Need-returns-2
 returns-2 c =

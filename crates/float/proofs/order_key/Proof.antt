@@ -31,13 +31,13 @@ returns-2 : tie.Need-returns-2
 unfolding keyOf
 returns-2 c =
     let x = c .before .before .args .x in
-    rw (key-pattern x (no-nan x (c .before .if1 .left)), lt-leb (2 ^ 63) (toBits binary64 x) (c .if2 .taken))
+    rw (key-pattern x (no-nan x (c .before .if1 .left)), lt-leb (2 ^ 63) (toBits binary64 x) (omega arith))
 
 returns-3 : tie.Need-returns-3
 unfolding keyOf
 returns-3 c =
     let x = c .before .before .args .x in
-    rw (key-pattern x (no-nan x (c .before .if1 .left)), le-leb (2 ^ 63) (toBits binary64 x) (c .if2 .left))
+    rw (key-pattern x (no-nan x (c .before .if1 .left)), le-leb (2 ^ 63) (toBits binary64 x) (omega arith))
 
 pub order-key-spec : {M : Type 1} → statement M
 order-key-spec = tie.close (tie.spec returns float-to-bits-b add-result sub-result returns-2 returns-3)
