@@ -1,10 +1,67 @@
-/* The C functions of the point membership engine. Link with libviewer.a. */
+/* The C functions of the point membership engine. Link with libviewer.a and the C mathematics library. */
 #ifndef ZIRWENNACH_H
 #define ZIRWENNACH_H
+
+#include <stddef.h>
+#include <stdint.h>
 
 #ifdef __cplusplus
 extern "C" {
 #endif
+
+/* A list is a pointer and its length in numbers. A length of 0 may come with any pointer. Nothing that
+   is lent as const is changed.
+
+   Every shape question returns 0 if the point x, y, z lies outside, 1 if it lies inside, or a refusal:
+   its number times 1,000,000 plus a place. The questions are asked in this order:
+     11,000,000  the list of a polygon, wire or multi-box is no whole number of entries (2, 3 and 6
+                 numbers each), or has more than 4,096
+     10,000,000  a number of the shape or of its list is infinite or NaN
+      9,000,000  a coordinate of the point is infinite or NaN */
+
+/* The sphere around c. */
+uint64_t csx_sphere(double cx, double cy, double cz, double radius, double x, double y, double z);
+
+/* The box with opposite corners a and b; its faces count as inside. */
+uint64_t csx_box(double ax, double ay, double az, double bx, double by, double bz, double x, double y,
+                 double z);
+
+/* The same with corners and point in cylindrical coordinates: radius, angle in radians, height. */
+uint64_t csx_box_cylindrical(double ax, double ay, double az, double bx, double by, double bz, double x,
+                             double y, double z);
+
+/* A union of boxes: for each the six numbers of two opposite corners. */
+uint64_t csx_multi_box(const double *list, size_t length, double x, double y, double z);
+
+/* The points within half the shell width of the sphere's surface; the width's sign is ignored. */
+uint64_t csx_spherical_shell(double cx, double cy, double cz, double radius, double shell_width,
+                             double x, double y, double z);
+
+/* The solid cylinder around the axis from a to b. */
+uint64_t csx_cylinder(double ax, double ay, double az, double bx, double by, double bz, double radius,
+                      double x, double y, double z);
+
+/* The points between the ends of that axis within half the shell width of the cylinder's mantle. */
+uint64_t csx_cylindrical_shell(double ax, double ay, double az, double bx, double by, double bz,
+                               double radius, double shell_width, double x, double y, double z);
+
+/* The polygon in the plane at the elevation normal to axis 0, 1 or 2 (any other number: no point is
+   inside). Each vertex is two numbers, along the next axis and the one after it in cyclic order. */
+uint64_t csx_polygon(uint64_t normal_direction, double elevation, const double *list, size_t length,
+                     double x, double y, double z);
+
+/* That polygon extruded along the axis from the elevation over the extent, which may be negative. */
+uint64_t csx_lin_poly(uint64_t normal_direction, double elevation, double extent, const double *list,
+                      size_t length, double x, double y, double z);
+
+/* The points within the radius of the polyline through the list's points, three numbers each. */
+uint64_t csx_wire(const double *list, size_t length, double radius, double x, double y, double z);
+
+/* The polyline itself, which holds no point: 0 or a refusal. */
+uint64_t csx_curve(const double *list, size_t length, double x, double y, double z);
+
+/* The single point a, which holds no point: 0 or a refusal. */
+uint64_t csx_point(double ax, double ay, double az, double x, double y, double z);
 
 /* The square root of x, rounded to the nearest double: IEEE 754's. NaN of NaN and of every negative
    number, a zero of the same zero. */

@@ -1,5 +1,6 @@
 -- The definitions of crate `float`, and the laws that other crates cite.
 pub mod Rules
+pub mod Arithmetic
 pub mod Tests
 pub mod Quanta
 pub mod TotalOrder

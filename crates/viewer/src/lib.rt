@@ -1,4 +1,7 @@
-// The engine's C functions, as include/zirwennach.h declares them.
+// The engine's C functions, as include/zirwennach.h declares them. A slice is a pointer and a length. A
+// refusal is returned as its number × 1,000,000 plus its place.
+pub mod shapes;
+
 ghost use mathlib.Core.Path.{_≡_};
 ghost use Rattle.float.specs.Root as Root;
 

@@ -1,0 +1,2 @@
+-- The definitions of crate `coords`.
+pub mod Angles

@@ -1,0 +1,2 @@
+-- The definitions of crate `curve`.
+pub mod Polylines

@@ -1,0 +1,42 @@
+-- `BoundingBox::union` meets its contract: its tests are those of the definition.
+use mathlib.Core.Path.{_≡_, sym, _∙_}
+use Rattle.math.specs.Boxes.{union}
+use borrow.Author.Needs.{needs}
+use Rattle.math.proofs.BoundingBox.union.Statement.{statement}
+use Rattle.math.proofs.BoundingBox.union.Tie as tie
+
+is-empty-requires : tie.Need-is-empty-requires
+is-empty-requires c κs = search needs
+
+returns : tie.Need-returns
+unfolding union
+returns c = rw (sym (c .before .is-empty .ensures) ∙ c .if1 .taken)
+
+is-empty-requires-2 : tie.Need-is-empty-requires-2
+is-empty-requires-2 c κs = search needs
+
+returns-2 : tie.Need-returns-2
+unfolding union
+returns-2 c = rw (sym (c .before .before .before .is-empty .ensures) ∙ c .before .before .if1 .left, sym (c .before .is-empty2 .ensures) ∙ c .if2 .taken)
+
+min-requires : tie.Need-min-requires
+min-requires c κs = search needs
+
+max-requires : tie.Need-max-requires
+max-requires c κs = search needs
+
+returns-3 : tie.Need-returns-3
+unfolding union
+returns-3 c = rw (sym (c .before .before .before .before .before .is-empty .ensures) ∙ c .before .before .before .before .if1 .left, sym (c .before .before .before .is-empty2 .ensures) ∙ c .before .before .if2 .left) (cc)
+
+pub union-spec : {M : Type 1} → statement M
+union-spec =
+    tie.close
+    (tie.spec
+    is-empty-requires
+    returns
+    is-empty-requires-2
+    returns-2
+    min-requires
+    max-requires
+    returns-3)

@@ -1,0 +1,3 @@
+-- The definitions of crate `math`.
+pub mod Vectors
+pub mod Boxes

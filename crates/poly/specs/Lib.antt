@@ -1,0 +1,3 @@
+-- The definitions of crate `poly`.
+pub mod Planes
+pub mod Cases

@@ -1,0 +1,261 @@
+// The shapes that are no mesh, and the question whether a point lies in one: csx's `Shape` and its
+// dispatch (mod.rs), with document 01's questions 11, 10 and 9 asked first. The definitions are in
+// specs/Shapes.antt (the rule) and specs/Questions.antt (the questions and the answer).
+ghost use mathlib.Core.Path.{_≡_};
+ghost use Rattle.primitives.specs.Shapes as Shapes;
+ghost use Rattle.primitives.specs.Questions as Questions;
+use math::Vec3;
+use refusal::Refusal;
+
+// A shape's numbers. The vertices of polygons and wires and the corners of multi-boxes are in the list
+// that is lent beside the shape; the other shapes do not look at that list.
+pub enum Shape {
+    // Between two opposite corners.
+    Box {
+        start: Vec3,
+        stop: Vec3,
+    },
+    // The same with corners and point in cylindrical coordinates.
+    CylindricalBox {
+        start: Vec3,
+        stop: Vec3,
+    },
+    // Boxes, six numbers each in the list, compared as they are in either system.
+    MultiBox,
+    Sphere {
+        center: Vec3,
+        radius: f64,
+    },
+    SphericalShell {
+        center: Vec3,
+        radius: f64,
+        shell_width: f64,
+    },
+    // Around the axis from start to stop.
+    Cylinder {
+        start: Vec3,
+        stop: Vec3,
+        radius: f64,
+    },
+    CylindricalShell {
+        start: Vec3,
+        stop: Vec3,
+        radius: f64,
+        shell_width: f64,
+    },
+    // In the plane at the elevation normal to an axis; two numbers a vertex in the list.
+    Polygon {
+        norm_dir: u64,
+        elevation: f64,
+    },
+    // The polygon extruded along the axis.
+    LinPoly {
+        norm_dir: u64,
+        elevation: f64,
+        length: f64,
+    },
+    // Through the list's points, three numbers each.
+    Curve,
+    // A curve with a round cross section.
+    Wire {
+        radius: f64,
+    },
+    Point {
+        point: Vec3,
+    },
+}
+
+// What a shape question answers.
+pub enum Answer {
+    Outside,
+    Inside,
+    Refused(Refusal),
+}
+
+impl Answer {
+    // What a C function returns for it: 0, 1 or the refusal's number × 1,000,000 plus its place.
+    pub fn value(self) -> u64
+        ensures { λ r. ⌜ r ≡ Questions.value self ⌝ }
+    {
+        match self {
+            Answer::Outside => 0,
+            Answer::Inside => 1,
+            Answer::Refused(refusal) => refusal.code(),
+        }
+    }
+}
+
+// The dispatch: the point and the list go to the shape's own rule.
+fn inside(shape: Shape, list: &[f64], p: Vec3) -> bool
+    ensures { λ r. ⌜ r ≡ Shapes.inside shape (now (list .entry)) p ⌝ }
+{
+    match shape {
+        Shape::Box { start, stop } => basic::inside_box(start, stop, p),
+        Shape::CylindricalBox { start, stop } => basic::inside_cylindrical_box(start, stop, p),
+        Shape::MultiBox => basic::inside_multi_box(list, p),
+        Shape::Sphere { center, radius } => basic::inside_sphere(center, radius, p),
+        Shape::SphericalShell {
+            center,
+            radius,
+            shell_width,
+        } => basic::inside_spherical_shell(center, radius, shell_width, p),
+        Shape::Cylinder {
+            start,
+            stop,
+            radius,
+        } => basic::inside_cylinder(start, stop, radius, p),
+        Shape::CylindricalShell {
+            start,
+            stop,
+            radius,
+            shell_width,
+        } => basic::inside_cylindrical_shell(start, stop, radius, shell_width, p),
+        Shape::Polygon {
+            norm_dir,
+            elevation,
+        } => poly::inside_polygon(norm_dir, elevation, list, p),
+        Shape::LinPoly {
+            norm_dir,
+            elevation,
+            length,
+        } => poly::inside_lin_poly(norm_dir, elevation, length, list, p),
+        Shape::Curve => curve::inside_curve(list, p),
+        Shape::Wire { radius } => curve::inside_wire(list, radius, p),
+        Shape::Point { point } => curve::inside_point(point, p),
+    }
+}
+
+// The numbers of an entry of the shape's list, for the shapes that question 11 asks; else 0.
+fn entry_size(shape: Shape) -> usize
+    ensures { λ r. ⌜ r ≡ Questions.entrySize shape ⌝ }
+{
+    match shape {
+        Shape::Box { start: _, stop: _ } => 0,
+        Shape::CylindricalBox { start: _, stop: _ } => 0,
+        Shape::MultiBox => 6,
+        Shape::Sphere {
+            center: _,
+            radius: _,
+        } => 0,
+        Shape::SphericalShell {
+            center: _,
+            radius: _,
+            shell_width: _,
+        } => 0,
+        Shape::Cylinder {
+            start: _,
+            stop: _,
+            radius: _,
+        } => 0,
+        Shape::CylindricalShell {
+            start: _,
+            stop: _,
+            radius: _,
+            shell_width: _,
+        } => 0,
+        Shape::Polygon {
+            norm_dir: _,
+            elevation: _,
+        } => 2,
+        Shape::LinPoly {
+            norm_dir: _,
+            elevation: _,
+            length: _,
+        } => 2,
+        Shape::Curve => 0,
+        Shape::Wire { radius: _ } => 3,
+        Shape::Point { point: _ } => 0,
+    }
+}
+
+// Question 11: has a polygon, wire or multi-box whole entries, at most 4,096?
+fn whole_entries(shape: Shape, list: &[f64]) -> bool
+    ensures { λ r. ⌜ r ≡ Questions.wholeEntries shape (now (list .entry)) ⌝ }
+{
+    let size = entry_size(shape);
+    if size == 0 {
+        return true;
+    }
+    (list.len() % size == 0) & (list.len() / size <= 4096)
+}
+
+// Whether every number of the list is finite.
+fn all_finite(list: &[f64]) -> bool
+    ensures { λ r. ⌜ r ≡ Questions.allFinite (now (list .entry)) ⌝ }
+{
+    let mut i = 0;
+    while i < list.len() {
+        if !float::is_finite(list[i]) {
+            return false;
+        }
+        i += 1;
+    }
+    true
+}
+
+// Question 10: is each number of the shape finite?
+fn finite_numbers(shape: Shape, list: &[f64]) -> bool
+    ensures { λ r. ⌜ r ≡ Questions.finiteNumbers shape (now (list .entry)) ⌝ }
+{
+    match shape {
+        Shape::Box { start, stop } => start.is_finite() & stop.is_finite(),
+        Shape::CylindricalBox { start, stop } => start.is_finite() & stop.is_finite(),
+        Shape::MultiBox => all_finite(list),
+        Shape::Sphere { center, radius } => center.is_finite() & float::is_finite(radius),
+        Shape::SphericalShell {
+            center,
+            radius,
+            shell_width,
+        } => { center.is_finite() & float::is_finite(radius) & float::is_finite(shell_width) }
+        Shape::Cylinder {
+            start,
+            stop,
+            radius,
+        } => { start.is_finite() & stop.is_finite() & float::is_finite(radius) }
+        Shape::CylindricalShell {
+            start,
+            stop,
+            radius,
+            shell_width,
+        } => {
+            start.is_finite()
+                & stop.is_finite()
+                & float::is_finite(radius)
+                & float::is_finite(shell_width)
+        }
+        Shape::Polygon {
+            norm_dir: _,
+            elevation,
+        } => float::is_finite(elevation) & all_finite(list),
+        Shape::LinPoly {
+            norm_dir: _,
+            elevation,
+            length,
+        } => float::is_finite(elevation) & float::is_finite(length) & all_finite(list),
+        Shape::Curve => all_finite(list),
+        Shape::Wire { radius } => float::is_finite(radius) & all_finite(list),
+        Shape::Point { point } => point.is_finite(),
+    }
+}
+
+// Whether the point lies in the shape, after questions 11, 10 and 9.
+pub fn contains(shape: Shape, list: &[f64], p: Vec3) -> Answer
+    ensures { λ r. ⌜ r ≡ Questions.shapeAnswer shape (now (list .entry)) p ⌝ }
+{
+    if !whole_entries(shape, list) {
+        return Answer::Refused(Refusal::Entries);
+    }
+    let numbers = finite_numbers(shape, list);
+    let point = p.is_finite();
+    if !numbers {
+        return Answer::Refused(Refusal::ShapeNumber);
+    }
+    if !point {
+        return Answer::Refused(Refusal::Point(0));
+    }
+    if inside(shape, list, p) {
+        Answer::Inside
+    } else {
+        Answer::Outside
+    }
+}
