@@ -1,5 +1,11 @@
-//! The engine's C functions. Each takes and gives plain numbers and accepts
-//! every value, so each is safe to call.
+//! The engine's C functions. Each accepts every value, so those that take plain
+//! numbers are safe to call. A list is lent as a pointer and a length, so those
+//! that take one are called through `answer`, which has a slice.
+
+use std::ptr;
+
+/// Three coordinates.
+pub type Point = [f64; 3];
 
 unsafe extern "C" {
     pub safe fn csx_root(x: f64) -> f64;
@@ -13,6 +19,87 @@ unsafe extern "C" {
     safe fn probe_guess(digits: u64, odd: u64) -> f64;
     safe fn probe_settle(p: u64, w: u64) -> u64;
     safe fn probe_by_digits(w: u64) -> u64;
+    safe fn csx_box(
+        ax: f64,
+        ay: f64,
+        az: f64,
+        bx: f64,
+        by: f64,
+        bz: f64,
+        x: f64,
+        y: f64,
+        z: f64,
+    ) -> u64;
+    safe fn csx_box_cylindrical(
+        ax: f64,
+        ay: f64,
+        az: f64,
+        bx: f64,
+        by: f64,
+        bz: f64,
+        x: f64,
+        y: f64,
+        z: f64,
+    ) -> u64;
+    fn csx_multi_box(list: *const f64, length: usize, x: f64, y: f64, z: f64) -> u64;
+    safe fn csx_sphere(cx: f64, cy: f64, cz: f64, radius: f64, x: f64, y: f64, z: f64) -> u64;
+    safe fn csx_spherical_shell(
+        cx: f64,
+        cy: f64,
+        cz: f64,
+        radius: f64,
+        shell_width: f64,
+        x: f64,
+        y: f64,
+        z: f64,
+    ) -> u64;
+    safe fn csx_cylinder(
+        ax: f64,
+        ay: f64,
+        az: f64,
+        bx: f64,
+        by: f64,
+        bz: f64,
+        radius: f64,
+        x: f64,
+        y: f64,
+        z: f64,
+    ) -> u64;
+    safe fn csx_cylindrical_shell(
+        ax: f64,
+        ay: f64,
+        az: f64,
+        bx: f64,
+        by: f64,
+        bz: f64,
+        radius: f64,
+        shell_width: f64,
+        x: f64,
+        y: f64,
+        z: f64,
+    ) -> u64;
+    fn csx_polygon(
+        normal: u64,
+        elevation: f64,
+        list: *const f64,
+        length: usize,
+        x: f64,
+        y: f64,
+        z: f64,
+    ) -> u64;
+    fn csx_lin_poly(
+        normal: u64,
+        elevation: f64,
+        extrusion: f64,
+        list: *const f64,
+        length: usize,
+        x: f64,
+        y: f64,
+        z: f64,
+    ) -> u64;
+    fn csx_curve(list: *const f64, length: usize, x: f64, y: f64, z: f64) -> u64;
+    fn csx_wire(list: *const f64, length: usize, radius: f64, x: f64, y: f64, z: f64) -> u64;
+    safe fn csx_point(px: f64, py: f64, pz: f64, x: f64, y: f64, z: f64) -> u64;
 }
 
 /// The square root.
@@ -74,3 +161,89 @@ pub const SIGNIFICAND: Significand = Significand {
     settle: |p, w| probe_settle(p, w),
     by_digits: |w| probe_by_digits(w),
 };
+
+/// A shape that a C function answers for. The list of a multi-box, polygon,
+/// extruded polygon, curve or wire is lent beside it.
+#[derive(Clone, Copy, Debug)]
+pub enum Shape {
+    /// Two opposite corners.
+    Box(Point, Point),
+    /// Two opposite corners in cylindrical coordinates, as the point is.
+    CylindricalBox(Point, Point),
+    MultiBox,
+    /// Centre and radius.
+    Sphere(Point, f64),
+    /// Centre, radius and shell width.
+    SphericalShell(Point, f64, f64),
+    /// Start, stop and radius.
+    Cylinder(Point, Point, f64),
+    /// Start, stop, radius and shell width.
+    CylindricalShell(Point, Point, f64, f64),
+    /// Normal direction and elevation.
+    Polygon(u64, f64),
+    /// Normal direction, elevation and length.
+    LinPoly(u64, f64, f64),
+    Curve,
+    /// Radius.
+    Wire(f64),
+    /// Position.
+    Point(Point),
+}
+
+impl Shape {
+    /// Its floats, in the order of the C function's arguments.
+    pub fn numbers_mut(&mut self) -> Vec<&mut f64> {
+        match self {
+            Self::Box(a, b) | Self::CylindricalBox(a, b) => a.iter_mut().chain(b).collect(),
+            Self::MultiBox | Self::Curve => Vec::new(),
+            Self::Sphere(c, r) => c.iter_mut().chain([r]).collect(),
+            Self::SphericalShell(c, r, w) => c.iter_mut().chain([r, w]).collect(),
+            Self::Cylinder(a, b, r) => a.iter_mut().chain(b).chain([r]).collect(),
+            Self::CylindricalShell(a, b, r, w) => a.iter_mut().chain(b).chain([r, w]).collect(),
+            Self::Polygon(_, x) | Self::Wire(x) => vec![x],
+            Self::LinPoly(_, e, l) => vec![e, l],
+            Self::Point(p) => p.iter_mut().collect(),
+        }
+    }
+}
+
+/// The engine's answer on a point: 0 outside, 1 inside, or a refusal's number
+/// times 1,000,000 plus its place. A list beside a shape that has none is not
+/// lent. The engine writes to no list. It gets a mutable one all the same: of a
+/// shared one the compiler takes this for granted, and may drop a test of it.
+pub fn answer(shape: &Shape, list: &mut [f64], point: Point) -> u64 {
+    let [x, y, z] = point;
+    let length = list.len();
+    // C callers lend an empty list as null, which a slice never is.
+    let list = if list.is_empty() {
+        ptr::null()
+    } else {
+        list.as_mut_ptr().cast_const()
+    };
+    match *shape {
+        Shape::Box([ax, ay, az], [bx, by, bz]) => csx_box(ax, ay, az, bx, by, bz, x, y, z),
+        Shape::CylindricalBox([ax, ay, az], [bx, by, bz]) => {
+            csx_box_cylindrical(ax, ay, az, bx, by, bz, x, y, z)
+        }
+        // SAFETY: here and below, `list` has `length` floats, or is not read
+        // since it has none.
+        Shape::MultiBox => unsafe { csx_multi_box(list, length, x, y, z) },
+        Shape::Sphere([cx, cy, cz], r) => csx_sphere(cx, cy, cz, r, x, y, z),
+        Shape::SphericalShell([cx, cy, cz], r, w) => csx_spherical_shell(cx, cy, cz, r, w, x, y, z),
+        Shape::Cylinder([ax, ay, az], [bx, by, bz], r) => {
+            csx_cylinder(ax, ay, az, bx, by, bz, r, x, y, z)
+        }
+        Shape::CylindricalShell([ax, ay, az], [bx, by, bz], r, w) => {
+            csx_cylindrical_shell(ax, ay, az, bx, by, bz, r, w, x, y, z)
+        }
+        // SAFETY: as above.
+        Shape::Polygon(n, e) => unsafe { csx_polygon(n, e, list, length, x, y, z) },
+        // SAFETY: as above.
+        Shape::LinPoly(n, e, l) => unsafe { csx_lin_poly(n, e, l, list, length, x, y, z) },
+        // SAFETY: as above.
+        Shape::Curve => unsafe { csx_curve(list, length, x, y, z) },
+        // SAFETY: as above.
+        Shape::Wire(r) => unsafe { csx_wire(list, length, r, x, y, z) },
+        Shape::Point([px, py, pz]) => csx_point(px, py, pz, x, y, z),
+    }
+}

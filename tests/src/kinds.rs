@@ -7,6 +7,7 @@ pub mod remainder;
 pub mod root;
 pub mod root_inputs;
 pub mod rules;
+pub mod shapes;
 
 use crate::plan::Plan;
 use crate::random::specials;

@@ -55,12 +55,39 @@ pub fn moved(x: f64, steps: i64) -> f64 {
     if steps == 0 || x.is_nan() {
         return x;
     }
-    let infinity = f64::INFINITY.to_bits() as i64;
+    let infinity = place(f64::INFINITY);
+    let place = place(x).saturating_add(steps).clamp(-infinity, infinity);
+    at_place(place)
+}
+
+/// The place of a value that is no NaN among the values of the format, counted
+/// from zero. Both zeros have place 0.
+fn place(x: f64) -> i64 {
     let bits = x.to_bits() as i64;
-    let place = if bits < 0 { i64::MIN - bits } else { bits };
-    let place = place.saturating_add(steps).clamp(-infinity, infinity);
+    if bits < 0 { i64::MIN - bits } else { bits }
+}
+
+/// The value at this place.
+fn at_place(place: i64) -> f64 {
     let size = f64::from_bits(place.unsigned_abs());
     if place < 0 { -size } else { size }
+}
+
+/// A value from `a` towards `b` at which `test` says what it says at `a`, and
+/// whose neighbour towards `b` it judges otherwise. It judges `a` and `b`
+/// differently, and neither is a NaN.
+pub fn turn(a: f64, b: f64, test: impl Fn(f64) -> bool) -> f64 {
+    let at_a = test(a);
+    let (mut near, mut far) = (place(a), place(b));
+    while near.abs_diff(far) > 1 {
+        let middle = near.midpoint(far);
+        if test(at_place(middle)) == at_a {
+            near = middle;
+        } else {
+            far = middle;
+        }
+    }
+    at_place(near)
 }
 
 /// `x` and its neighbours up to `steps` away.
@@ -181,6 +208,16 @@ impl Random {
         }
     }
 
+    /// A value of any kind that is finite.
+    pub fn finite(&mut self) -> f64 {
+        loop {
+            let x = self.any();
+            if x.is_finite() {
+                return x;
+            }
+        }
+    }
+
     /// A value to compare with `x`: often it, its opposite or a neighbour.
     pub fn rival(&mut self, x: f64) -> f64 {
         match self.below(6) {
@@ -228,6 +265,15 @@ mod tests {
     }
 
     #[test]
+    fn a_turn_is_found_to_the_last_digit() {
+        assert_eq!(turn(0.0, 9.0, |x| x < 1.5), moved(1.5, -1));
+        assert_eq!(turn(9.0, 0.0, |x| x < 1.5), 1.5);
+        assert_eq!(turn(-2.0, f64::MAX, |x| x <= 0.0), 0.0);
+        assert_eq!(turn(f64::MIN, f64::MAX, |x| x < -1.0), moved(-1.0, -1));
+        assert_eq!(turn(1.0, moved(1.0, 1), |x| x == 1.0), 1.0);
+    }
+
+    #[test]
     fn powers_of_two_are_exact() {
         assert_eq!(power_of_two(-1074).to_bits(), 1);
         for e in -1074..1023 {
@@ -243,6 +289,7 @@ mod tests {
             assert_eq!(random.normal().classify(), FpCategory::Normal);
             assert_eq!(random.subnormal().classify(), FpCategory::Subnormal);
             assert!(!random.number().is_nan());
+            assert!(random.finite().is_finite());
             assert_eq!(random.of_digits(53).leading_zeros(), 11);
             assert!(random.below(3) < 3);
         }

@@ -60,6 +60,8 @@ pub struct Kind {
     compared: u64,
     differed: u64,
     shown: Vec<String>,
+    /// What the kind was to see and did not.
+    missing: Vec<String>,
 }
 
 impl Kind {
@@ -69,30 +71,44 @@ impl Kind {
             compared: 0,
             differed: 0,
             shown: Vec::new(),
+            missing: Vec::new(),
         }
     }
 
     /// Compares what the engine gave for this input with what it should be.
     #[inline]
     pub fn compare<I: Value, R: Value>(&mut self, input: &[I], got: R, want: R) {
+        self.compare_for(got, want, || {
+            let input: Vec<String> = input.iter().map(|v| v.text()).collect();
+            input.join(", ")
+        });
+    }
+
+    /// The same for an input that is written only if it is printed.
+    #[inline]
+    pub fn compare_for<R: Value>(&mut self, got: R, want: R, input: impl Fn() -> String) {
         self.compared += 1;
         if !got.same(want) {
-            self.differ(input, got, want);
+            self.differ(got, want, input);
         }
     }
 
     #[cold]
-    fn differ<I: Value, R: Value>(&mut self, input: &[I], got: R, want: R) {
+    fn differ<R: Value>(&mut self, got: R, want: R, input: impl Fn() -> String) {
         self.differed += 1;
         if self.shown.len() < SHOWN {
-            let input: Vec<String> = input.iter().map(|v| v.text()).collect();
             self.shown.push(format!(
                 "input {}: got {}, expected {}",
-                input.join(", "),
+                input(),
                 got.text(),
                 want.text()
             ));
         }
+    }
+
+    /// Says that the kind was to see this and did not, which fails it.
+    pub fn miss(&mut self, what: String) {
+        self.missing.push(what);
     }
 }
 
@@ -102,6 +118,9 @@ impl fmt::Display for Kind {
         write!(f, "{name:<52}{compared:>12}{differed:>12}")?;
         if compared == 0 {
             write!(f, "\n    nothing was compared")?;
+        }
+        for what in &self.missing {
+            write!(f, "\n    never seen: {what}")?;
         }
         for line in &self.shown {
             write!(f, "\n    {line}")?;
@@ -116,7 +135,7 @@ pub struct Report {
     kinds: u64,
     compared: u64,
     differed: u64,
-    empty: u64,
+    lacking: u64,
 }
 
 impl Report {
@@ -131,7 +150,7 @@ impl Report {
         self.kinds += 1;
         self.compared += kind.compared;
         self.differed += kind.differed;
-        self.empty += u64::from(kind.compared == 0);
+        self.lacking += u64::from(kind.compared == 0 || !kind.missing.is_empty());
     }
 
     /// Prints a count that is no comparison.
@@ -139,9 +158,10 @@ impl Report {
         println!("    {text}");
     }
 
-    /// Whether anything differed, or a kind had nothing to compare.
+    /// Whether anything differed, or a kind had nothing to compare or did not
+    /// see what it was to see.
     pub fn failed(&self) -> bool {
-        self.differed != 0 || self.empty != 0
+        self.differed != 0 || self.lacking != 0
     }
 
     /// Prints the totals and gives the exit status.
@@ -201,6 +221,14 @@ mod tests {
     #[test]
     fn a_kind_without_comparisons_fails() {
         assert!(report_of(Kind::new("test")).failed());
+    }
+
+    #[test]
+    fn a_kind_that_misses_something_fails() {
+        let mut kind = kind_of(2.0, 2.0);
+        kind.miss("inside".to_string());
+        assert!(kind.to_string().contains("never seen: inside"));
+        assert!(report_of(kind).failed());
     }
 
     #[test]

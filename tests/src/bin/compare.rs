@@ -4,7 +4,7 @@ use std::env;
 use std::process::ExitCode;
 
 use zirwennach_tests::engine;
-use zirwennach_tests::kinds::{corrections, order, remainder, root, rules};
+use zirwennach_tests::kinds::{corrections, order, remainder, root, rules, shapes};
 use zirwennach_tests::plan::{DEFAULT_SEED, Plan};
 use zirwennach_tests::report::Report;
 
@@ -53,5 +53,8 @@ fn run(plan: &Plan) -> Report {
     rules::is_finite(&mut report, plan, engine::is_finite);
     remainder::compare(&mut report, plan, engine::rem_euclid);
     order::compare(&mut report, plan, engine::order_key);
+    shapes::edges::compare(&mut report, engine::answer);
+    shapes::cases::compare(&mut report, plan, engine::answer);
+    shapes::refusals::compare(&mut report, plan, engine::answer);
     report
 }
