@@ -1,5 +1,5 @@
 -- csx's `point_in_polygon` (geom.rs): even-odd, with points on an edge inside. Definitions, and the laws by which a walk over the list's numbers meets them.
-use mathlib.Core.Bool.{Bool, true, false, cond, _&&_}
+use mathlib.Core.Bool.{Bool, true, false, cond}
 use Prim.Native.Nat.{ℕ, zero, suc, _+_, _-_, _*_, _/_, _<_}
 use native.Mathlib.Omega.{arith}
 use mathlib.Core.Path.{_≡_, refl}

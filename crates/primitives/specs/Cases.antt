@@ -1,7 +1,7 @@
 -- Document 01's starred cases of shapes ('Edges of the rules'), by computation of the shape question.
 use mathlib.Core.Path.{_≡_, refl}
 use mathlib.Core.List.{[]}
-use lib.Ieee.{Float, binary64, ofBits, le, lt, ne, eq, add, sub, mul, div}
+use lib.Ieee.{Float, binary64, ofBits, le, lt, ne, eq, add, sub, mul}
 use Rattle.float.specs.Arithmetic.{zero, one}
 use Rattle.float.specs.Rules as Rules
 use Rattle.float.specs.Root.{root}

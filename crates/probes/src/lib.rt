@@ -1,6 +1,6 @@
 // C forms of inner functions, for the differential driver alone: none is in the engine's header.
 ghost use mathlib.Core.Path.{_≡_};
-ghost use Prim.Native.Nat.{_*_, _%_, _^_, _≤_, _<_};
+ghost use Prim.Native.Nat.{_*_, _%_, _^_};
 ghost use Rattle.float.specs.Rules as Rules;
 ghost use Rattle.float.specs.TotalOrder as TotalOrder;
 ghost use Rattle.float.specs.Guess as Guess;

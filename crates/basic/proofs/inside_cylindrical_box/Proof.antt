@@ -1,5 +1,5 @@
 -- `inside_cylindrical_box` meets its contract: its tests are those of the definition, in its order.
-use mathlib.Core.Path.{_≡_, sym, _∙_}
+use mathlib.Core.Path.{sym, _∙_}
 use borrow.Author.Tests.{not-true, not-false}
 use Rattle.basic.specs.Boxes.{insideCylindricalBox}
 use borrow.Author.Needs.{needs}

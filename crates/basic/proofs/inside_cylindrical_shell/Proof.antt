@@ -1,5 +1,5 @@
 -- `inside_cylindrical_shell` meets its contract: the calls promise the parts of the definition.
-use mathlib.Core.Path.{_≡_, sym, _∙_}
+use mathlib.Core.Path.{sym, _∙_}
 use Rattle.basic.specs.Round.{insideCylindricalShell, inTube}
 use borrow.Author.Needs.{needs}
 use Rattle.basic.proofs.inside_cylindrical_shell.Statement.{statement}

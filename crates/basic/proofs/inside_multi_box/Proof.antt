@@ -3,7 +3,7 @@ use Prim.Native.Nat.{_≤_, _+_, _-_, _*_}
 use native.Mathlib.Omega.{arith}
 use mathlib.Core.Path.{_≡_, refl, sym, _∙_}
 use mathlib.Core.Bool.{true, false}
-use lib.ListN.{length, drop}
+use lib.ListN.{drop}
 use borrow.Author.Needs.{needs}
 use Rattle.math.specs.Vectors.{at, points}
 use Rattle.basic.specs.Boxes.{insideBox, inSomeBox, insideMultiBox, inSomeBox-next, inSomeBox-end}

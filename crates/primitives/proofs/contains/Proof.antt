@@ -1,5 +1,5 @@
 -- `contains` meets its contract: its tests are the definition's questions, in their order, and `inside` promises the rule.
-use mathlib.Core.Path.{_≡_, sym, _∙_}
+use mathlib.Core.Path.{sym, _∙_}
 use borrow.Author.Tests.{not-true, not-false}
 use Rattle.primitives.specs.Questions.{shapeAnswer, finitePoint}
 use borrow.Author.Needs.{needs}

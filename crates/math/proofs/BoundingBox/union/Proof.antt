@@ -1,5 +1,5 @@
 -- `BoundingBox::union` meets its contract: its tests are those of the definition.
-use mathlib.Core.Path.{_≡_, sym, _∙_}
+use mathlib.Core.Path.{sym, _∙_}
 use Rattle.math.specs.Boxes.{union}
 use borrow.Author.Needs.{needs}
 use Rattle.math.proofs.BoundingBox.union.Statement.{statement}
