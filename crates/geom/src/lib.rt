@@ -9,7 +9,7 @@ ghost use Rattle.geom.specs.Polygons as Polygons;
 use math::Vec3;
 
 // The relative tolerance of closed intervals.
-const REL_TOL: f64 = 1e-12;
+pub const REL_TOL: f64 = 1e-12;
 
 // A point in the plane of a polygon.
 pub struct Point2 {
@@ -25,7 +25,7 @@ pub fn tol(a: f64, b: f64) -> f64
 }
 
 // The relative tolerance times a magnitude, which counts as 1e-300 if it is smaller.
-fn tol_of(magnitude: f64) -> f64
+pub fn tol_of(magnitude: f64) -> f64
     ensures { λ r. ⌜ r ≡ Tolerance.tolOf magnitude ⌝ }
 {
     REL_TOL * float::max(magnitude, 1e-300)

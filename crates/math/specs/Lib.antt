@@ -1,3 +1,4 @@
 -- The definitions of crate `math`.
 pub mod Vectors
 pub mod Boxes
+pub mod Alike

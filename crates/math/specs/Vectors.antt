@@ -1,7 +1,7 @@
 -- csx's `Vec3` (math.rs): each method as csx writes it, in csx's order of operations; and
 -- the points of a list, with the laws by which a walk over its numbers meets them.
 use mathlib.Core.Bool.{Bool, cond, _&&_}
-use Prim.Native.Nat.{ℕ, suc, _+_, _/_, _<_}
+use Prim.Native.Nat.{ℕ, zero, suc, _+_, _*_, _/_, _<_}
 use native.Mathlib.Omega.{arith}
 use mathlib.Core.Path.{_≡_, refl}
 use mathlib.Core.List.{List, [], _∷_}
@@ -102,3 +102,16 @@ length-points [] = refl
 length-points (x ∷ []) = refl
 length-points (x ∷ y ∷ []) = refl
 length-points (x ∷ y ∷ z ∷ rest) = omega (arith, length-points rest)
+
+-- point v of the list is the three numbers from place 3 v on
+pub getD-points : (l : List Float) (v : ℕ) (d : Vec3) → v < length l / 3 → getD (points l) v d ≡ at l (3 * v)
+unfolding points at
+getD-points [] v d h = absurd (omega arith)
+getD-points (x ∷ []) v d h = absurd (omega arith)
+getD-points (x ∷ y ∷ []) v d h = absurd (omega arith)
+getD-points (x ∷ y ∷ z ∷ rest) zero d h = refl
+getD-points (x ∷ y ∷ z ∷ rest) (suc v) d h =
+    let same : 3 * suc v ≡ suc (suc (suc (3 * v))) = omega arith in
+    let one : 3 * suc v + 1 ≡ suc (suc (suc (3 * v + 1))) = omega arith in
+    let two : 3 * suc v + 2 ≡ suc (suc (suc (3 * v + 2))) = omega arith in
+    rw (one, two, same) (getD-points rest v d (omega arith))

@@ -1,2 +1,3 @@
 -- The definitions of crate `refusal`.
 pub mod Numbers
+pub mod Verdicts

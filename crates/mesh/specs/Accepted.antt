@@ -1,0 +1,149 @@
+-- What holds of a mesh that questions 1 to 5 let pass.
+use Prim.Native.Nat.{ℕ, zero, suc, _+_, _-_, _*_, _/_, _≤_, _<_}
+use native.Mathlib.Omega.{arith}
+use mathlib.Core.Path.{_≡_, refl, _∙_}
+use mathlib.Core.Bool.{Bool, true, false}
+use mathlib.Core.List.{List, [], _∷_}
+use lib.Dec.{leb, ltb}
+use lib.Ieee.{Float, nan}
+use lib.ListN.{length, getD, take, drop, length-append, length-take, length-drop}
+use lib.Seq.{getD-take, getD-drop}
+use borrow.Author.Tests.{leb-true, eqb-true, ltb-true, ltb-false}
+use Rattle.math.specs.declared.Vec3.{Vec3}
+use Rattle.math.specs.Vectors as Vectors
+use Rattle.refusal.specs.declared.Verdict.the-variants.{Passed}
+use Rattle.refusal.specs.declared.Refusal.the-variants.{ShortFace, CornerOut, NotFinite}
+use Rattle.refusal.specs.Verdicts.{ask, ask-passed, then-passed}
+use Rattle.mesh.specs.Faces.{faces, facesFrom}
+use Rattle.mesh.specs.Triangles.{fanFrom, fan, fans, triangles}
+use Rattle.mesh.specs.Questions.{wholeVertices, endsFit, facesFit, askLengths, allBelow, askFace, askFaces, askVertices, askParts, askMesh, Lengths}
+use Rattle.mesh.specs.Walks.{both, endsFit-le}
+
+-- each face has three corners or more, the first beginning at place `start`
+abbrev pub Wide : ℕ → List ℕ → Type 0
+Wide start [] = Prim.Unit {0}
+Wide start (end ∷ rest) = (start + 3 ≤ end) × Wide end rest
+
+-- the facts of an accepted mesh
+pub record Accepted (coords : List Float) (corners ends : List ℕ) : Type 0 where
+  pub lengths : Lengths coords corners ends
+  pub limit : length corners ≤ 262144
+  pub wide : Wide 0 ends
+  pub below : (i : ℕ) → i < length corners → getD corners i 0 < length coords / 3
+  pub finite : (v : ℕ) → v < length coords / 3 → Vectors.isFinite (Vectors.at coords (3 * v)) ≡ true
+
+-- the facts by which triangle t of a mesh is found
+pub record Fanned (corners ends : List ℕ) : Type 0 where
+  pub faces : length ends ≤ 65536
+  pub few : length corners ≤ 4294967296
+  pub fit : endsFit 0 (length corners) ends ≡ true
+  pub wide : Wide 0 ends
+
+-- questions 1 and 2
+pub lengths-of : (limit : ℕ) (coords : List Float) (corners ends : List ℕ) → askLengths limit coords corners ends ≡ Passed → Lengths coords corners ends × (length corners ≤ limit)
+unfolding askLengths wholeVertices facesFit
+lengths-of limit coords corners ends e =
+    let parts = then-passed _ _ e in
+    let whole = both _ _ (ask-passed _ _ (parts .0)) in
+    let fits = both _ _ (ask-passed _ _ (parts .1)) in
+    let few = both _ _ (fits .0) in
+    (record { vertices = leb-true _ _ (whole .1); whole = eqb-true _ _ (whole .0); faces = leb-true _ _ (few .0); fit = fits .1 }, leb-true _ _ (few .1))
+
+-- question 3: each face is wide
+pub wide-of : (vertices number start : ℕ) (corners ends : List ℕ) → endsFit start (length corners) ends ≡ true → askFaces vertices number (facesFrom start corners ends) ≡ Passed → Wide start ends
+unfolding endsFit askFaces facesFrom askFace
+wide-of vertices number start corners [] fit e = tt
+wide-of vertices number start corners (end ∷ rest) fit e =
+    let fits = both (leb start end) (endsFit end (length corners) rest) fit in
+    let parts = then-passed _ _ e in
+    let wide : 3 ≤ length (take (end - start) (drop start corners)) = leb-true _ _ (ask-passed _ _ (then-passed _ _ (parts .0) .0)) in
+    let rises = leb-true start end (fits .0) in
+    let short = endsFit-le end (length corners) rest (fits .1) in
+    (omega (arith, simp (length-take, length-drop) at wide), wide-of vertices (number + 1) end corners rest (fits .1) (parts .1))
+
+-- corners that are all below a number are so at each place
+pub below-at : (n : ℕ) (l : List ℕ) (i : ℕ) → allBelow n l ≡ true → i < length l → getD l i 0 < n
+unfolding allBelow
+below-at n [] i e h = absurd (omega arith)
+below-at n (x ∷ rest) zero e h = ltb-true x n (both (ltb x n) (allBelow n rest) e .0)
+below-at n (x ∷ rest) (suc i) e h = below-at n rest i (both (ltb x n) (allBelow n rest) e .1) (omega arith)
+
+-- question 4: each corner is a vertex
+pub below-of : (vertices number start : ℕ) (corners ends : List ℕ) → endsFit start (length corners) ends ≡ true → askFaces vertices number (facesFrom start corners ends) ≡ Passed → (i : ℕ) → start ≤ i → i < length corners → getD corners i 0 < vertices
+unfolding endsFit askFaces facesFrom askFace
+below-of vertices number start corners [] fit e i from to =
+    let last : start ≡ length corners = eqb-true _ _ fit in
+    absurd (omega arith)
+below-of vertices number start corners (end ∷ rest) fit e i from to =
+    let fits = both (leb start end) (endsFit end (length corners) rest) fit in
+    let parts = then-passed _ _ e in
+    let corners-here = take (end - start) (drop start corners) in
+    let here = ask (allBelow vertices corners-here) (CornerOut number) in
+    let face = ask-passed (allBelow vertices corners-here) (CornerOut number) (then-passed (ask (leb 3 (length corners-here)) (ShortFace number)) here (parts .0) .1) in
+    let rises = leb-true start end (fits .0) in
+    let short = endsFit-le end (length corners) rest (fits .1) in
+    go (ltb i end) refl rises short face (λ past. below-of vertices (number + 1) end corners rest (fits .1) (parts .1) i past to)
+  where
+    go : (t : Bool) → ltb i end ≡ t → start ≤ end → end ≤ length corners → allBelow vertices (take (end - start) (drop start corners)) ≡ true → (end ≤ i → getD corners i 0 < vertices) → getD corners i 0 < vertices
+    go false past rises short face next = next (ltb-false i end past)
+    go true before rises short face next =
+        let h = ltb-true i end before in
+        let place : start + (i - start) ≡ i = omega arith in
+        let here = below-at vertices (take (end - start) (drop start corners)) (i - start) face (simp (length-take, length-drop) (omega arith)) in
+        rw (getD-take (end - start) (drop start corners) (i - start) 0 (omega arith), getD-drop start corners (i - start) 0, place) at here
+
+-- question 5: each vertex is finite
+pub finite-of : (number : ℕ) (vertices : List Vec3) (v : ℕ) (d : Vec3) → askVertices number vertices ≡ Passed → v < length vertices → Vectors.isFinite (getD vertices v d) ≡ true
+unfolding askVertices
+finite-of number [] v d e h = absurd (omega arith)
+finite-of number (vertex ∷ rest) zero d e h = ask-passed _ _ (then-passed _ _ e .0)
+finite-of number (vertex ∷ rest) (suc v) d e h = finite-of (number + 1) rest v d (then-passed (ask (Vectors.isFinite vertex) (NotFinite number)) (askVertices (number + 1) rest) e .1) (omega arith)
+
+-- questions 1 to 5
+pub accepted : (coords : List Float) (corners ends : List ℕ) → askMesh coords corners ends ≡ Passed → Accepted coords corners ends
+unfolding askMesh askParts faces
+accepted coords corners ends e =
+    let parts = then-passed _ _ e in
+    let lengths = lengths-of 262144 coords corners ends (parts .0) in
+    let rest = then-passed _ _ (parts .1) in
+    let origin : Vec3 = Vectors.vec nan nan nan in
+    record {
+      lengths = lengths .0;
+      limit = lengths .1;
+      wide = wide-of (length coords / 3) 0 0 corners ends (lengths .0 .fit) (rest .0);
+      below = λ i h. below-of (length coords / 3) 0 0 corners ends (lengths .0 .fit) (rest .0) i (omega arith) h;
+      finite = λ v h. rw (Vectors.getD-points coords v origin h) at (finite-of 0 (Vectors.points coords) v origin (rest .1) (rw (Vectors.length-points coords) h));
+    }
+
+-- an accepted mesh has these facts
+pub fanned : {coords : List Float} {corners ends : List ℕ} → Accepted coords corners ends → Fanned corners ends
+fanned a = record { faces = a .lengths .faces; few = omega (arith, a .limit); fit = a .lengths .fit; wide = a .wide }
+
+-- the triangles of a face: two fewer than its corners
+pub length-fanFrom : (a : ℕ) (l : List ℕ) → length (fanFrom a l) ≡ length l - 1
+unfolding fanFrom
+length-fanFrom a [] = refl
+length-fanFrom a (b ∷ []) = refl
+length-fanFrom a (b ∷ c ∷ rest) = omega (arith, length-fanFrom a (c ∷ rest))
+
+pub length-fan : (face : List ℕ) → length (fan face) ≡ length face - 2
+unfolding fan
+length-fan [] = refl
+length-fan (a ∷ rest) = omega (arith, length-fanFrom a rest)
+
+-- the triangles are corners − 2 · faces
+pub length-fans : (start : ℕ) (corners ends : List ℕ) → endsFit start (length corners) ends ≡ true → Wide start ends → length (fans (facesFrom start corners ends)) + 2 * length ends + start ≡ length corners
+unfolding fans facesFrom endsFit
+length-fans start corners [] fit wide =
+    let last : start ≡ length corners = eqb-true _ _ fit in
+    omega arith
+length-fans start corners (end ∷ rest) fit wide =
+    let fits = both (leb start end) (endsFit end (length corners) rest) fit in
+    let short = endsFit-le end (length corners) rest (fits .1) in
+    let face = take (end - start) (drop start corners) in
+    let here : length (fan face) ≡ end - start - 2 = length-fan face ∙ simp (length-take, length-drop) (omega arith) in
+    omega (arith, length-append (fan face) (fans (facesFrom end corners rest)), here, wide .0, length-fans end corners rest (fits .1) (wide .1))
+
+pub length-triangles : (coords : List Float) (corners ends : List ℕ) → Accepted coords corners ends → length (triangles corners ends) ≡ length corners - 2 * length ends
+unfolding triangles faces
+length-triangles coords corners ends a = omega (arith, length-fans 0 corners ends (a .lengths .fit) (a .wide))

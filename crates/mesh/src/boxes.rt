@@ -1,0 +1,84 @@
+// The boxes of a mesh and its triangles, and what is worked out of the mesh's box once a list. The
+// definitions are in specs/Boxes.antt.
+ghost use mathlib.Core.Path.{_≡_};
+ghost use Prim.Native.Nat.{_+_, _*_, _<_};
+ghost use lib.ListN.{length};
+ghost use Rattle.mesh.specs.Boxes as Boxes;
+use crate::Triangle;
+use math::BoundingBox;
+use math::Vec3;
+
+// What every point of a list is asked with.
+pub struct Prepared {
+    // The mesh's box, larger by the tolerance: a point outside it is outside the mesh.
+    pub grown: BoundingBox,
+    // How near the surface a point counts as on it.
+    pub eps: f64,
+}
+
+// Vertex `v`.
+pub fn vertex(coords: &[f64], v: u32) -> Vec3
+    requires { ⌜ 3 * v + 2 < length (now coords) ⌝ }
+    ensures { λ r. ⌜ r ≡ Boxes.vertex (now (coords .entry)) v ⌝ }
+{
+    Vec3::at(coords, 3 * (v as usize))
+}
+
+// A triangle's own box.
+pub fn triangle_box(coords: &[f64], t: Triangle) -> BoundingBox
+    requires { ⌜ Boxes.Corners (now coords) t ⌝ }
+    ensures { λ r. ⌜ r ≡ Boxes.triangleBox (now (coords .entry)) t ⌝ }
+{
+    BoundingBox::empty()
+        .include(vertex(coords, t.a))
+        .include(vertex(coords, t.b))
+        .include(vertex(coords, t.c))
+}
+
+// The centre of a triangle's own box.
+pub fn triangle_center(coords: &[f64], t: Triangle) -> Vec3
+    requires { ⌜ Boxes.Corners (now coords) t ⌝ }
+    ensures { λ r. ⌜ r ≡ Boxes.triangleCenter (now (coords .entry)) t ⌝ }
+{
+    triangle_box(coords, t).center()
+}
+
+// The box of all vertices, used or not.
+pub fn mesh_box(coords: &[f64]) -> BoundingBox
+    ensures { λ r. ⌜ r ≡ Boxes.meshBox (now (coords .entry)) ⌝ }
+{
+    let n = coords.len() / 3;
+    let mut b = BoundingBox::empty();
+    let mut v = 0;
+    while v < n {
+        b = b.include(Vec3::at(coords, 3 * v));
+        v += 1;
+    }
+    b
+}
+
+// The tolerance of the surface test of a mesh with this box.
+fn surface_eps(b: BoundingBox) -> f64
+    ensures { λ r. ⌜ r ≡ Boxes.surfaceEps b ⌝ }
+{
+    let size = b.size().norm();
+    geom::tol_of(float::max(float::max(size, b.max.norm()), b.min.norm()))
+}
+
+// The box larger on every side by the relative tolerance times the norm of its size.
+fn grown(b: BoundingBox) -> BoundingBox
+    ensures { λ r. ⌜ r ≡ Boxes.grown b ⌝ }
+{
+    b.expanded(geom::REL_TOL * b.size().norm())
+}
+
+// What the points of a list are asked with, from the mesh's coordinates.
+pub fn prepare(coords: &[f64]) -> Prepared
+    ensures { λ r. ⌜ r ≡ Boxes.prepare (now (coords .entry)) ⌝ }
+{
+    let b = mesh_box(coords);
+    Prepared {
+        grown: grown(b),
+        eps: surface_eps(b),
+    }
+}
