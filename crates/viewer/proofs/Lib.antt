@@ -1,0 +1,2 @@
+-- Facts about the definitions, for the proofs.
+mod Welding

@@ -1,0 +1,2 @@
+-- The definitions of crate `viewer`: what the C functions promise beyond the entries that they call.
+pub mod Welding

@@ -1,0 +1,2 @@
+-- The lemmas that belong to no one function.
+mod Walk
