@@ -63,6 +63,20 @@ uint64_t csx_curve(const double *list, size_t length, double x, double y, double
 /* The single point a, which holds no point: 0 or a refusal. */
 uint64_t csx_point(double ax, double ay, double az, double x, double y, double z);
 
+/* Welds triangles into a mesh. `triangles` has nine numbers a triangle. Corners that are equal as numbers
+   become one vertex; a triangle two of whose corners are one vertex is dropped. Written are x, y, z of
+   each vertex in order of first appearance (coords), three vertex numbers a kept triangle (corners), where
+   each face's corners end (ends: 3, 6, 9, ..), and the numbers of vertices and of faces (sizes, two
+   places). What lies past the written part is unchanged. The buffers must not overlap. Returns 0, or:
+     1,000,000          the list is no multiple of 9 numbers, or has more than 21,845 triangles
+     5,000,000 + place  the corner at this place, counted from 0 through all triangles, is not finite
+     6,000,000          coords has fewer than 9, corners fewer than 3 or ends fewer than 1 place a
+                        triangle, or sizes has fewer than 2
+   A refused call changes nothing. */
+uint64_t csx_from_triangles(const double *triangles, size_t triangles_length, double *coords,
+                            size_t coords_length, uint32_t *corners, size_t corners_length,
+                            uint32_t *ends, size_t ends_length, uint64_t *sizes, size_t sizes_length);
+
 /* The square root of x, rounded to the nearest double: IEEE 754's. NaN of NaN and of every negative
    number, a zero of the same zero. */
 double csx_root(double x);
