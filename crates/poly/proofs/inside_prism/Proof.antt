@@ -1,7 +1,7 @@
 -- `inside_prism` meets its contract: its tests are those of the definition, in its order.
+use borrow.Author.Needs.{needs}
 use borrow.Author.Tests.{le-ltb, lt-ltb, not-true, not-false}
 use Rattle.poly.specs.Planes.{insidePrism}
-use borrow.Author.Needs.{needs}
 use Rattle.poly.proofs.inside_prism.Statement.{statement}
 use Rattle.poly.proofs.inside_prism.Tie as tie
 
@@ -18,7 +18,9 @@ in-range-requires c κs = search needs
 returns-2 : tie.Need-returns-2
 unfolding insidePrism
 returns-2 c =
-    rw (le-ltb _ _ (c .before .before .before .if1 .left), ← c .before .before .component .ensures, ← c .before .in-range .ensures, not-true (c .before .in-range .result) (c .if2 .taken))
+    let axis = le-ltb _ _ (c .before .before .before .if1 .left) in
+    let out = not-true (c .before .in-range .result) (c .if2 .taken) in
+    rw (axis, ← c .before .before .component .ensures, ← c .before .in-range .ensures, out)
 
 plane-axes-requires : tie.Need-plane-axes-requires
 plane-axes-requires c κs = search needs
@@ -35,9 +37,9 @@ point-in-polygon-requires c κs = search needs
 returns-3 : tie.Need-returns-3
 unfolding insidePrism
 returns-3 c =
-    rw
-    (le-ltb _ _ (c .before .before .before .before .before .before .before .if1 .left), ← c .before .before .before .before .before .before .component .ensures, ← c .before .before .before .before .before .in-range .ensures, not-false (c .before .before .before .before .before .in-range .result) (c .before .before .before .before .if2 .left))
-    (cc)
+    let axis = le-ltb _ _ (c .before .before .before .before .before .before .before .if1 .left) in
+    let within = not-false (c .before .before .before .before .before .in-range .result) (c .before .before .before .before .if2 .left) in
+    rw (axis, ← c .before .before .before .before .before .before .component .ensures, ← c .before .before .before .before .before .in-range .ensures, within) (cc)
 
 pub inside-prism-spec : {M : Type 1} → statement M
 inside-prism-spec =

@@ -28,14 +28,19 @@ code-requires-2 c κs = search needs
 returns : tie.Need-returns
 unfolding verdict
 returns c =
-    let said : verdict (c .before .before .before .before .before .before .before .before .before .before .before .args .triangles .now) (c .before .before .before .before .before .before .before .before .before .before .before .args .coords .now) (c .before .before .before .before .before .before .before .before .before .before .before .args .corners .now) (c .before .before .before .before .before .before .before .before .before .before .before .args .ends .now) (c .before .before .before .before .before .before .before .before .before .before .before .args .sizes .now) ≡ Refused (c .before .before .asked .given .0 .0) = rw (sym (c .before .before .before .before .ask-triangles .ensures) ∙ c .before .before .asked .given .1) in
-    rw (c .code .ensures) (refused (c .before .before .before .before .before .before .before .before .before .before .before .args .triangles .now) (c .before .before .before .before .before .before .before .before .before .before .before .args .coords .now) (c .before .before .before .before .before .before .before .before .before .before .before .args .corners .now) (c .before .before .before .before .before .before .before .before .before .before .before .args .ends .now) (c .before .before .before .before .before .before .before .before .before .before .before .args .sizes .now) _ said)
+    let a = c .before .before .before .before .before .before .before .before .before .before .before .args in
+    let asked = sym (c .before .before .before .before .ask-triangles .ensures) ∙ c .before .before .asked .given .1 in
+    let said : verdict (a .triangles .now) (a .coords .now) (a .corners .now) (a .ends .now) (a .sizes .now) ≡ Refused (c .before .before .asked .given .0 .0) = rw asked in
+    rw (c .code .ensures) (refused (a .triangles .now) (a .coords .now) (a .corners .now) (a .ends .now) (a .sizes .now) _ said)
 
 returns-2 : tie.Need-returns-2
 unfolding verdict
 returns-2 c =
-    let said : verdict (c .before .before .before .before .before .before .before .before .before .before .args .triangles .now) (c .before .before .before .before .before .before .before .before .before .before .args .coords .now) (c .before .before .before .before .before .before .before .before .before .before .args .corners .now) (c .before .before .before .before .before .before .before .before .before .before .args .ends .now) (c .before .before .before .before .before .before .before .before .before .before .args .sizes .now) ≡ Refused Room = rw (sym (c .before .before .before .ask-triangles .ensures) ∙ c .before .enum-told .given .1, lt-leb _ _ (c .before .before .before .before .if1 .taken)) in
-    rw (c .code2 .ensures) (refused (c .before .before .before .before .before .before .before .before .before .before .args .triangles .now) (c .before .before .before .before .before .before .before .before .before .before .args .coords .now) (c .before .before .before .before .before .before .before .before .before .before .args .corners .now) (c .before .before .before .before .before .before .before .before .before .before .args .ends .now) (c .before .before .before .before .before .before .before .before .before .before .args .sizes .now) Room said)
+    let a = c .before .before .before .before .before .before .before .before .before .before .args in
+    let asked = sym (c .before .before .before .ask-triangles .ensures) ∙ c .before .enum-told .given .1 in
+    let short = lt-leb _ _ (c .before .before .before .before .if1 .taken) in
+    let said : verdict (a .triangles .now) (a .coords .now) (a .corners .now) (a .ends .now) (a .sizes .now) ≡ Refused Room = rw (asked, short) in
+    rw (c .code2 .ensures) (refused (a .triangles .now) (a .coords .now) (a .corners .now) (a .ends .now) (a .sizes .now) Room said)
 
 from-triangles-requires : tie.Need-from-triangles-requires
 from-triangles-requires c κs = search needs
@@ -65,7 +70,11 @@ same-length-3 : tie.Need-same-length-3
 same-length-3 c = search needs
 
 returns-3 : tie.Need-returns-3
-returns-3 c = rw (c .code3 .ensures) (welding-refused (c .before .before .before .before .before .before .before .before .before .before .before .before .before .before .before .before .before .before .before .before .args .triangles .now) (c .before .before .before .before .before .before .before .before .before .before .before .before .before .before .before .before .before .before .before .before .args .coords .now) (c .before .before .before .before .before .before .before .before .before .before .before .before .before .before .before .before .before .before .before .before .args .corners .now) (c .before .before .before .before .before .before .before .before .before .before .before .before .before .before .before .before .before .before .before .before .args .ends .now) (c .before .before .before .before .before .before .before .before .before .before .before .before .before .before .before .before .before .before .before .before .args .sizes .now) _ _ _ _ (c .before .before .before .before .before .before .before .before .before .before .from-triangles .ensures) (c .before .before .before .before .before .before .before .before .before .before .before .before .before .before .if1 .left) _ (c .before .before .welded .given .1))
+returns-3 c =
+    let a = c .before .before .before .before .before .before .before .before .before .before .before .before .before .before .before .before .before .before .before .before .args in
+    let welded = c .before .before .before .before .before .before .before .before .before .before .from-triangles .ensures in
+    let room = c .before .before .before .before .before .before .before .before .before .before .before .before .before .before .if1 .left in
+    rw (c .code3 .ensures) (welding-refused (a .triangles .now) (a .coords .now) (a .corners .now) (a .ends .now) (a .sizes .now) _ _ _ _ welded room _ (c .before .before .welded .given .1))
 
 same-length-4 : tie.Need-same-length-4
 same-length-4 c = search needs
@@ -80,7 +89,11 @@ same-length-7 : tie.Need-same-length-7
 same-length-7 c = search needs
 
 returns-4 : tie.Need-returns-4
-returns-4 c = welding-passed (c .before .before .before .before .before .before .before .before .before .before .before .before .before .before .before .before .before .before .before .args .triangles .now) (c .before .before .before .before .before .before .before .before .before .before .before .before .before .before .before .before .before .before .before .args .coords .now) (c .before .before .before .before .before .before .before .before .before .before .before .before .before .before .before .before .before .before .before .args .corners .now) (c .before .before .before .before .before .before .before .before .before .before .before .before .before .before .before .before .before .before .before .args .ends .now) (c .before .before .before .before .before .before .before .before .before .before .before .before .before .before .before .before .before .before .before .args .sizes .now) _ _ _ _ (c .before .before .before .before .before .before .before .before .before .from-triangles .ensures) (c .before .before .before .before .before .before .before .before .before .before .before .before .before .if1 .left) _ _ (c .before .welded2 .given .1)
+returns-4 c =
+    let a = c .before .before .before .before .before .before .before .before .before .before .before .before .before .before .before .before .before .before .before .args in
+    let welded = c .before .before .before .before .before .before .before .before .before .from-triangles .ensures in
+    let room = c .before .before .before .before .before .before .before .before .before .before .before .before .before .if1 .left in
+    welding-passed (a .triangles .now) (a .coords .now) (a .corners .now) (a .ends .now) (a .sizes .now) _ _ _ _ welded room _ _ (c .before .welded2 .given .1)
 
 pub csx-from-triangles-spec : {M : Type 1} → statement M
 csx-from-triangles-spec =
