@@ -9,12 +9,14 @@ use mathlib.Core.List.{List, [], _∷_, _++_, flatten}
 use lib.ListN.{length, getD, drop, length-append, take-append-drop}
 use lib.Seq.{drop-length, drop-drop}
 use lib.Dec.{leb}
+use lib.Ieee.{Float}
 use borrow.Author.Tests.{leb-true, eqb-true, le-leb, lt-leb}
 use Rattle.keys.specs.Sorting.{All, Small}
-use Rattle.keys.specs.SortingTheorems.{le-or-lt, eq-or-ne, all-at}
+use Rattle.keys.specs.SortingTheorems.{le-or-lt, eq-or-ne, all-at, all-of}
 use Rattle.mesh.specs.Faces.{faces, facesFrom}
 use Rattle.mesh.specs.Questions.{endsFit}
 use Rattle.mesh.specs.Walks.{both}
+use Rattle.mesh.specs.Accepted.{Accepted}
 use Rattle.edges.specs.Edges.{edgeKey, keysFrom, faceKeys, edgeKeys}
 use Rattle.edges.specs.Below.{Below}
 
@@ -119,6 +121,11 @@ module _ (P Q : ℕ → Type 0) (of-two : (a b : ℕ) → P a → P b → Q (edg
   all-edgeKeys (face ∷ rest) a =
       let parts = all-split P face (flatten rest) a in
       all-join Q (faceKeys face) (edgeKeys rest) (all-faceKeys face (parts .0)) (all-edgeKeys rest (parts .1))
+
+-- the corners of an accepted mesh are below 65,536
+pub accepted-below : {coords : List Float} {corners ends : List ℕ} → Accepted coords corners ends → Below 65536 corners
+accepted-below {corners = corners} m =
+    all-of (λ a. a < 65536) corners (λ i h. omega (arith, m .below i h, m .lengths .vertices))
 
 -- the keys of corners below 65,536 are below 2^32
 pub edgeKeys-small : (fs : List (List ℕ)) → Below 65536 (flatten fs) → Small (edgeKeys fs)

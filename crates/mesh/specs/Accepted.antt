@@ -11,12 +11,15 @@ use lib.Seq.{getD-take, getD-drop}
 use borrow.Author.Tests.{leb-true, eqb-true, ltb-true, ltb-false}
 use Rattle.math.specs.declared.Vec3.{Vec3}
 use Rattle.math.specs.Vectors as Vectors
-use Rattle.refusal.specs.declared.Verdict.the-variants.{Passed}
+use Rattle.refusal.specs.declared.Verdict.{Verdict}
+use Rattle.refusal.specs.declared.Verdict.the-variants.{Passed, Refused}
 use Rattle.refusal.specs.declared.Refusal.the-variants.{ShortFace, CornerOut, NotFinite}
 use Rattle.refusal.specs.Verdicts.{ask, ask-passed, then-passed}
 use Rattle.mesh.specs.Faces.{faces, facesFrom}
 use Rattle.mesh.specs.Triangles.{fanFrom, fan, fans, triangles}
-use Rattle.mesh.specs.Questions.{wholeVertices, endsFit, facesFit, askLengths, allBelow, askFace, askFaces, askVertices, askParts, askMesh, Lengths}
+use Rattle.mesh.specs.declared.Counts.{Counts}
+use Rattle.mesh.specs.declared.Asked.the-variants as Answers
+use Rattle.mesh.specs.Questions.{wholeVertices, endsFit, facesFit, askLengths, allBelow, askFace, askFaces, askVertices, askParts, askMesh, Lengths, counts, answered, meshAsked}
 use Rattle.mesh.specs.Walks.{both, endsFit-le}
 
 -- each face has three corners or more, the first beginning at place `start`
@@ -114,6 +117,18 @@ accepted coords corners ends e =
       below = λ i h. below-of (length coords / 3) 0 0 corners ends (lengths .0 .fit) (rest .0) i (omega arith) h;
       finite = λ v h. rw (Vectors.getD-points coords v origin h) at (finite-of 0 (Vectors.points coords) v origin (rest .1) (rw (Vectors.length-points coords) h));
     }
+
+-- an answer with counts: the questions passed, and these are the counts
+answered-accepted : (v : Verdict) (a found : Counts) → answered v a ≡ Answers.Accepted found → (v ≡ Passed) × (found ≡ a)
+answered-accepted Passed a found e = (refl, cc)
+answered-accepted (Refused refusal) a found e = (cc, cc)
+
+-- what is known of a mesh once questions 1 to 5 are answered with counts
+pub asked : (coords : List Float) (corners ends : List ℕ) (found : Counts) → meshAsked coords corners ends ≡ Answers.Accepted found → Accepted coords corners ends × (found ≡ counts coords corners ends)
+unfolding meshAsked
+asked coords corners ends found e =
+    let parts = answered-accepted (askMesh coords corners ends) (counts coords corners ends) found e in
+    (accepted coords corners ends (parts .0), parts .1)
 
 -- an accepted mesh has these facts
 pub fanned : {coords : List Float} {corners ends : List ℕ} → Accepted coords corners ends → Fanned corners ends

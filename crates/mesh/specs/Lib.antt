@@ -6,5 +6,6 @@ pub mod Walks
 pub mod Accepted
 pub mod TriangleLaws
 pub mod Boxes
+pub mod Corners
 pub mod PermutedBoxes
 pub mod Rewriting

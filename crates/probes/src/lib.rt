@@ -1,4 +1,6 @@
 // C forms of inner functions, for the differential driver alone: none is in the engine's header.
+pub mod meshes;
+
 ghost use mathlib.Core.Path.{_≡_};
 ghost use Prim.Native.Nat.{_*_, _%_, _^_};
 ghost use Rattle.float.specs.Rules as Rules;
