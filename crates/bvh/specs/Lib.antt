@@ -1,0 +1,11 @@
+-- The definitions of crate `bvh`, and their theorems.
+pub mod Tree
+pub mod TreeRules
+pub mod TreeTest
+pub mod TreeTheorem
+pub mod Once
+pub mod JoinLaws
+pub mod Builder
+pub mod BuilderLaws
+pub mod BuilderTheorem
+pub mod BuilderSize
