@@ -2,10 +2,15 @@
 //! numbers are safe to call. A list is lent as a pointer and a length, so those
 //! that take one are called through `answer`, which has a slice.
 
+pub mod meshes;
+
 use std::ptr;
 
 /// Three coordinates.
 pub type Point = [f64; 3];
+
+/// A refusal is its number times this, plus its place.
+pub const REFUSAL: u64 = 1_000_000;
 
 unsafe extern "C" {
     pub safe fn csx_root(x: f64) -> f64;
@@ -207,6 +212,16 @@ impl Shape {
     }
 }
 
+/// The pointer that lends a list. C callers lend an empty one as null, which a
+/// slice never is.
+fn lent<T>(list: &mut [T]) -> *mut T {
+    if list.is_empty() {
+        ptr::null_mut()
+    } else {
+        list.as_mut_ptr()
+    }
+}
+
 /// The engine's answer on a point: 0 outside, 1 inside, or a refusal's number
 /// times 1,000,000 plus its place. A list beside a shape that has none is not
 /// lent. The engine writes to no list. It gets a mutable one all the same: of a
@@ -214,12 +229,7 @@ impl Shape {
 pub fn answer(shape: &Shape, list: &mut [f64], point: Point) -> u64 {
     let [x, y, z] = point;
     let length = list.len();
-    // C callers lend an empty list as null, which a slice never is.
-    let list = if list.is_empty() {
-        ptr::null()
-    } else {
-        list.as_mut_ptr().cast_const()
-    };
+    let list = lent(list).cast_const();
     match *shape {
         Shape::Box([ax, ay, az], [bx, by, bz]) => csx_box(ax, ay, az, bx, by, bz, x, y, z),
         Shape::CylindricalBox([ax, ay, az], [bx, by, bz]) => {

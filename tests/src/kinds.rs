@@ -2,6 +2,7 @@
 //! own tests can give it a wrong one and see it fail.
 
 pub mod corrections;
+pub mod meshes;
 pub mod order;
 pub mod remainder;
 pub mod root;

@@ -33,6 +33,18 @@ const SPECIALS: [u64; 24] = [
     0x7FFF_FFFF_FFFF_FFFF, // the last NaN
 ];
 
+/// Infinities and NaNs: quiet, signalling and with all digits, of both signs.
+pub const NOT_FINITE: [f64; 8] = [
+    f64::INFINITY,
+    f64::NEG_INFINITY,
+    f64::NAN,
+    f64::from_bits(0xFFF8_0000_0000_0000),
+    f64::from_bits(0x7FF0_0000_0000_0001),
+    f64::from_bits(0xFFF0_0000_0000_0001),
+    f64::from_bits(0x7FFF_FFFF_FFFF_FFFF),
+    f64::from_bits(0xFFFF_FFFF_FFFF_FFFF),
+];
+
 /// Each special value, with either sign.
 pub fn specials() -> impl Iterator<Item = f64> + Clone {
     SPECIALS

@@ -4,7 +4,7 @@ use std::env;
 use std::process::ExitCode;
 
 use zirwennach_tests::engine;
-use zirwennach_tests::kinds::{corrections, order, remainder, root, rules, shapes};
+use zirwennach_tests::kinds::{corrections, meshes, order, remainder, root, rules, shapes};
 use zirwennach_tests::plan::{DEFAULT_SEED, Plan};
 use zirwennach_tests::report::Report;
 
@@ -56,5 +56,15 @@ fn run(plan: &Plan) -> Report {
     shapes::edges::compare(&mut report, engine::answer);
     shapes::cases::compare(&mut report, plan, engine::answer);
     shapes::refusals::compare(&mut report, plan, engine::answer);
+    meshes::questions::compare(&mut report, plan, engine::meshes::mesh);
+    meshes::questions::limits(&mut report, plan, engine::meshes::mesh);
+    meshes::triangles::compare(&mut report, plan, engine::meshes::triangles);
+    meshes::triangles::large(&mut report, plan, engine::meshes::triangles);
+    meshes::boxes::compare(&mut report, plan, engine::meshes::boxes);
+    meshes::boxes::large(&mut report, plan, engine::meshes::boxes);
+    meshes::keys::compare(&mut report, plan, engine::meshes::edge_keys);
+    meshes::keys::large(&mut report, plan, engine::meshes::edge_keys);
+    meshes::welding::compare(&mut report, plan, engine::meshes::from_triangles);
+    meshes::welding::limits(&mut report, plan, engine::meshes::from_triangles);
     report
 }

@@ -19,14 +19,12 @@ use std::collections::BTreeMap;
 use csx::CoordSystem;
 
 use self::expected::{Csx, refusal};
-use crate::engine::{Point, Shape};
+use crate::engine::{Point, REFUSAL, Shape};
 use crate::random::Random;
 use crate::report::{Kind, Report, Value};
 
 const OUTSIDE: u64 = 0;
 const INSIDE: u64 = 1;
-/// A refusal is its number times this, plus its place.
-const REFUSAL: u64 = 1_000_000;
 
 /// The function under test, as `engine::answer` is.
 pub type Engine = fn(&Shape, &mut [f64], Point) -> u64;

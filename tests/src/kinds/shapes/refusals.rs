@@ -4,20 +4,8 @@
 use super::expected::{ENTRIES, LIST_REFUSED, NUMBER_REFUSED, POINT_REFUSED};
 use super::{Asker, Case, Engine, FORMS, Form, Line, with_coordinate};
 use crate::plan::Plan;
-use crate::random::Random;
+use crate::random::{NOT_FINITE, Random};
 use crate::report::Report;
-
-/// Infinities and NaNs: quiet, signalling and with all digits, of both signs.
-const NOT_FINITE: [f64; 8] = [
-    f64::INFINITY,
-    f64::NEG_INFINITY,
-    f64::NAN,
-    f64::from_bits(0xFFF8_0000_0000_0000),
-    f64::from_bits(0x7FF0_0000_0000_0001),
-    f64::from_bits(0xFFF0_0000_0000_0001),
-    f64::from_bits(0x7FFF_FFFF_FFFF_FFFF),
-    f64::from_bits(0xFFFF_FFFF_FFFF_FFFF),
-];
 
 /// Short lists, in which each number is asked about.
 const SHORT: [usize; 5] = [0, 1, 2, 3, 7];

@@ -1,12 +1,13 @@
-//! Times the engine's square root beside the hardware's. See README.md.
+//! The engine's square root beside the hardware's instruction.
 
 use std::hint::black_box;
-use std::process::ExitCode;
 use std::ptr;
-use std::time::{Duration, Instant};
+use std::time::Duration;
 
 use zirwennach_tests::engine;
 use zirwennach_tests::random::Random;
+
+use crate::best_times;
 
 /// Too many inputs for the processor to learn which branches they take. They are
 /// read in order, so the memory keeps up.
@@ -16,11 +17,9 @@ const ROUNDS: usize = 300;
 
 type Root = extern "C" fn(f64) -> f64;
 
-fn main() -> ExitCode {
-    println!(
-        "Times alone mean nothing on a shared machine: the ratio, from one run, is what counts."
-    );
-    println!("Each time is the best of {ROUNDS} interleaved rounds of {INPUTS} independent calls.");
+/// Prints the times, and answers whether all roots agree.
+pub fn run() -> bool {
+    println!("Square roots, the best of {ROUNDS} interleaved rounds of {INPUTS} independent calls");
     let mut random = Random::new(754);
     let rows = [
         row("normal values of any exponent", || random.normal().abs()),
@@ -31,14 +30,27 @@ fn main() -> ExitCode {
             random.subnormal().abs()
         }),
     ];
-    ExitCode::from(u8::from(rows.contains(&false)))
+    !rows.contains(&false)
 }
 
 /// Prints the times for these inputs, and answers whether the roots agree.
 fn row(name: &str, mut value: impl FnMut() -> f64) -> bool {
     let inputs: Vec<f64> = (0..INPUTS).map(|_| value()).collect();
     let agree = called(engine::csx_root, &inputs) == inlined(&inputs);
-    let [engine, hardware, inline] = best_times(&inputs);
+    let [engine, hardware, inline] = best_times(
+        ROUNDS,
+        [
+            &mut || {
+                black_box(called(engine::csx_root, &inputs));
+            },
+            &mut || {
+                black_box(called(hardware, &inputs));
+            },
+            &mut || {
+                black_box(inlined(&inputs));
+            },
+        ],
+    );
     println!("{name}");
     print_time("root, called", engine);
     print_time("hardware's instruction, called", hardware);
@@ -60,29 +72,6 @@ fn print_time(name: &str, time: Duration) {
         each * 1e9,
         1e-6 / each
     );
-}
-
-/// The best time of each of the three. Their rounds alternate, so that other
-/// work on the machine falls on all of them.
-fn best_times(inputs: &[f64]) -> [Duration; 3] {
-    let mut best = [Duration::MAX; 3];
-    for _ in 0..ROUNDS {
-        let times = [
-            timed(|| called(engine::csx_root, inputs)),
-            timed(|| called(hardware, inputs)),
-            timed(|| inlined(inputs)),
-        ];
-        for (best, time) in best.iter_mut().zip(times) {
-            *best = time.min(*best);
-        }
-    }
-    best
-}
-
-fn timed(pass: impl Fn() -> u64) -> Duration {
-    let start = Instant::now();
-    black_box(pass());
-    start.elapsed()
 }
 
 #[inline(never)]

@@ -1,0 +1,116 @@
+//! What a mesh is asked before its points, and welding, beside csx.
+
+use std::hint::black_box;
+use std::time::Duration;
+
+use csx::Polyhedron;
+use csx::primitives::polyhedron::is_closed;
+use zirwennach_tests::engine::meshes as engine;
+use zirwennach_tests::kinds::meshes::Mesh;
+use zirwennach_tests::kinds::meshes::inputs::{on_torus, torus};
+use zirwennach_tests::kinds::meshes::welding::{apart_triangles, csx_triangles, torus_triangles};
+use zirwennach_tests::random::Random;
+
+use crate::best_times;
+
+/// How many rounds are run, of which the best counts.
+const ROUNDS: usize = 100;
+/// The same of welding, which takes long.
+const WELDING_ROUNDS: usize = 5;
+
+/// Prints the times, and answers whether all answers agree.
+pub fn run() -> bool {
+    let mut random = Random::new(754);
+    println!(
+        "Questions 1 to 5, the mesh's box, the edge keys and closedness in one call, \
+         the best of {ROUNDS} interleaved rounds"
+    );
+    let mut net = torus(208, 312, false);
+    let grid = net.mesh_at(|v| on_torus(208, 312, v));
+    net.mix(&mut random);
+    let mixed = net.mesh_at(|v| on_torus(208, 312, v));
+    let prepared = [
+        prepare("a torus of 64,896 quads", grid),
+        prepare("the same with numbers and faces mixed", mixed),
+    ];
+    println!("Welding, the best of {WELDING_ROUNDS} interleaved rounds");
+    let welded = [
+        weld(
+            "21,845 triangles, all corners apart",
+            apart_triangles(&mut random),
+        ),
+        weld("a torus of 21,840 triangles", torus_triangles()),
+    ];
+    !prepared.contains(&false) && !welded.contains(&false)
+}
+
+/// Times the call beside csx's test of closedness alone, on the same faces.
+fn prepare(name: &str, mut mesh: Mesh) -> bool {
+    let faces: Vec<Vec<u32>> = mesh.faces().map(<[_]>::to_vec).collect();
+    let mut work = vec![0; mesh.corners.len()];
+    let mut out = [0.0; 7];
+    let mut lists = engine::Mesh {
+        coords: &mut mesh.coords,
+        corners: &mut mesh.corners,
+        ends: &mut mesh.ends,
+    };
+    let mut closed = 0;
+    let mut closed_by_csx = false;
+    let [engine, csx] = best_times(
+        ROUNDS,
+        [
+            &mut || closed = engine::prepare(&mut lists, &mut work, black_box(&mut out)),
+            &mut || closed_by_csx = is_closed(black_box(&faces)),
+        ],
+    );
+    print_row(name, engine, "csx's is_closed alone", csx);
+    agree(closed == u64::from(closed_by_csx))
+}
+
+/// Times welding beside csx's, which also tests closedness and builds its tree.
+fn weld(name: &str, mut triangles: Vec<f64>) -> bool {
+    let soup = csx_triangles(&triangles);
+    let count = soup.len();
+    let (mut coords, mut corners, mut ends) =
+        (vec![0.0; 9 * count], vec![0; 3 * count], vec![0; count]);
+    let mut sizes = [0; 2];
+    let mut welded = engine::Welded {
+        mesh: engine::Mesh {
+            coords: &mut coords,
+            corners: &mut corners,
+            ends: &mut ends,
+        },
+        sizes: &mut sizes,
+    };
+    let mut answer = 0;
+    let mut by_csx = None;
+    let [engine, csx] = best_times(
+        WELDING_ROUNDS,
+        [
+            &mut || answer = engine::from_triangles(&mut triangles, &mut welded),
+            &mut || by_csx = Polyhedron::from_triangles(black_box(&soup)).ok(),
+        ],
+    );
+    print_row(name, engine, "csx's from_triangles", csx);
+    agree(by_csx.is_some_and(|csx| {
+        answer == 0 && sizes == [csx.vertices().len(), csx.faces().len()].map(|n| n as u64)
+    }))
+}
+
+fn print_row(name: &str, engine: Duration, other: &str, csx: Duration) {
+    let print_time = |name: &str, time: Duration| {
+        println!("  {name:<32}{:>10.3} ms", 1e3 * time.as_secs_f64());
+    };
+    println!("{name}");
+    print_time("engine", engine);
+    print_time(other, csx);
+    let ratio = engine.as_secs_f64() / csx.as_secs_f64();
+    println!("  the engine takes {ratio:.2} times {other}");
+}
+
+fn agree(agree: bool) -> bool {
+    if !agree {
+        println!("  the answers differ");
+    }
+    agree
+}

@@ -1,0 +1,338 @@
+//! Meshes: questions 1 to 5, the triangles, the boxes, the edge keys and
+//! welding, against csx and against document 01.
+
+pub mod boxes;
+mod expected;
+pub mod inputs;
+pub mod keys;
+mod lent;
+pub mod questions;
+pub mod triangles;
+pub mod welding;
+
+use std::collections::BTreeMap;
+use std::fmt::Debug;
+use std::iter::once;
+
+use csx::{Polyhedron, Vec3};
+
+use self::lent::{Element, Lent, Wrong};
+use crate::engine::{self, Point, REFUSAL};
+use crate::random::Random;
+use crate::report::{Kind, Report, Value};
+
+/// A function under test, as those of `engine::meshes` are: it takes a mesh and
+/// a buffer.
+pub type Probe<T> = fn(&mut engine::meshes::Mesh, &mut [T]) -> u64;
+
+/// Refusal 6: the buffer is too short.
+const ROOM: u64 = 6 * REFUSAL;
+
+/// A mesh, with its lists as they are lent.
+#[derive(Clone, Debug, Default)]
+pub struct Mesh {
+    pub coords: Vec<f64>,
+    pub corners: Vec<u32>,
+    pub ends: Vec<u32>,
+}
+
+impl Mesh {
+    fn push_face(&mut self, face: impl IntoIterator<Item = u32>) {
+        self.corners.extend(face);
+        self.ends.push(self.corners.len() as u32);
+    }
+
+    /// How many whole vertices there are.
+    fn vertex_count(&self) -> usize {
+        self.coords.len() / 3
+    }
+
+    fn vertex(&self, v: u32) -> Point {
+        self.coords.as_chunks().0[v as usize]
+    }
+
+    /// The corners of each face, if the ends fit.
+    pub fn faces(&self) -> impl Iterator<Item = &[u32]> {
+        let starts = once(&0).chain(&self.ends);
+        starts
+            .zip(&self.ends)
+            .map(|(start, end)| &self.corners[*start as usize..*end as usize])
+    }
+
+    /// The mesh as csx makes it of whole vertices and of ends that fit.
+    fn csx(&self) -> csx::Result<Polyhedron> {
+        let vertices = self.coords.as_chunks().0.iter().copied().map(Vec3);
+        Polyhedron::new(
+            vertices.collect(),
+            self.faces().map(<[_]>::to_vec).collect(),
+        )
+    }
+
+    fn text(&self) -> String {
+        let Self {
+            coords,
+            corners,
+            ends,
+        } = self;
+        format!(
+            "coords {}, corners {}, ends {}",
+            cut(coords),
+            cut(corners),
+            cut(ends)
+        )
+    }
+}
+
+#[cfg(test)]
+impl Mesh {
+    /// The mesh that is lent.
+    fn of(lists: &engine::meshes::Mesh) -> Self {
+        Self {
+            coords: lists.coords.to_vec(),
+            corners: lists.corners.to_vec(),
+            ends: lists.ends.to_vec(),
+        }
+    }
+}
+
+/// How many elements of a list are printed.
+const PRINTED: usize = 24;
+
+/// The first elements of a list, and how long it is if there are more.
+fn cut<T: Debug>(list: &[T]) -> String {
+    match list.get(..PRINTED) {
+        Some(shown) if shown.len() < list.len() => {
+            format!("{shown:?} and on to {} elements", list.len())
+        }
+        _ => format!("{list:?}"),
+    }
+}
+
+/// A mesh whose lists are lent.
+struct LentMesh {
+    coords: Lent<f64>,
+    corners: Lent<u32>,
+    ends: Lent<u32>,
+}
+
+impl LentMesh {
+    fn new(mesh: &Mesh) -> Self {
+        Self {
+            coords: Lent::new(&mesh.coords),
+            corners: Lent::new(&mesh.corners),
+            ends: Lent::new(&mesh.ends),
+        }
+    }
+
+    fn lend(&mut self) -> engine::meshes::Mesh<'_> {
+        engine::meshes::Mesh {
+            coords: self.coords.list(),
+            corners: self.corners.list(),
+            ends: self.ends.list(),
+        }
+    }
+
+    /// The first place of a list that does not begin with what was written, or
+    /// was changed behind it.
+    fn wrong(&self, written: &Mesh) -> Option<Wrong> {
+        None.or_else(|| self.coords.wrong("coords", &written.coords))
+            .or_else(|| self.corners.wrong("corners", &written.corners))
+            .or_else(|| self.ends.wrong("ends", &written.ends))
+    }
+}
+
+/// What a call came to: its answer, and the first place of a lent list that is
+/// not as it should be.
+#[derive(Clone, Copy, PartialEq)]
+struct Outcome {
+    answer: u64,
+    wrong: Option<Wrong>,
+}
+
+impl Outcome {
+    /// An answer with every list as it should be.
+    fn answered(answer: u64) -> Self {
+        Self {
+            answer,
+            wrong: None,
+        }
+    }
+}
+
+impl Value for Outcome {
+    fn same(self, other: Self) -> bool {
+        self == other
+    }
+
+    fn text(self) -> String {
+        let answer = match self.answer {
+            n if n < REFUSAL => format!("{n}"),
+            n => format!("refusal {}, place {}", n / REFUSAL, n % REFUSAL),
+        };
+        match self.wrong {
+            Some(wrong) => format!("{answer} and {wrong}"),
+            None => answer,
+        }
+    }
+}
+
+/// A line of the table, with how often each sort of answer was expected.
+struct Line {
+    kind: Kind,
+    expected: BTreeMap<String, u64>,
+}
+
+impl Line {
+    fn new(name: impl Into<String>) -> Self {
+        Self {
+            kind: Kind::new(name),
+            expected: BTreeMap::new(),
+        }
+    }
+
+    /// Calls the function under test, and compares its answer and every lent
+    /// list with what they should be. `written` is what the buffer begins with
+    /// if nothing is refused.
+    fn ask<T: Element>(
+        &mut self,
+        probe: Probe<T>,
+        mesh: &Mesh,
+        mut buffer: Lent<T>,
+        want: u64,
+        written: &[T],
+    ) {
+        let mut lent = LentMesh::new(mesh);
+        let answer = probe(&mut lent.lend(), buffer.list());
+        let written = if want < REFUSAL { written } else { &[] };
+        let wrong = lent
+            .wrong(&Mesh::default())
+            .or_else(|| buffer.wrong("buffer", written));
+        self.compare(Outcome { answer, wrong }, want, || {
+            format!("{}, buffer of {}", mesh.text(), buffer.length())
+        });
+    }
+
+    fn compare(&mut self, got: Outcome, want: u64, input: impl Fn() -> String) {
+        self.kind.compare_for(got, Outcome::answered(want), input);
+        if want >= REFUSAL {
+            self.see(format!("refusal {}", want / REFUSAL));
+        }
+    }
+
+    /// Counts an answer that was expected.
+    fn see(&mut self, what: impl Into<String>) {
+        *self.expected.entry(what.into()).or_default() += 1;
+    }
+
+    /// Adds the line to the report. It fails if one of these was never expected:
+    /// it then says nothing of an engine that never gives it.
+    fn add_to(mut self, report: &mut Report, needed: &[&str]) {
+        for what in needed {
+            if !self.expected.contains_key(*what) {
+                self.kind.miss(what.to_string());
+            }
+        }
+        report.add(self.kind);
+        let counts: Vec<String> = self
+            .expected
+            .iter()
+            .map(|(what, times)| format!("{what} {times}"))
+            .collect();
+        report.note(format_args!("expected: {}", counts.join(", ")));
+    }
+}
+
+/// How long a buffer is lent that has to have this length: exactly so, somewhat
+/// longer, or one shorter if it can be.
+fn buffer_length(needed: usize, random: &mut Random) -> usize {
+    match random.below(8) {
+        0 => needed.saturating_sub(1),
+        1..=4 => needed,
+        _ => needed + 1 + random.below(8) as usize,
+    }
+}
+
+#[cfg(test)]
+mod tests {
+    use super::*;
+
+    #[test]
+    fn faces_are_cut_at_the_ends() {
+        let mut mesh = Mesh::default();
+        mesh.push_face([0, 1, 2]);
+        mesh.push_face([]);
+        mesh.push_face([3]);
+        let faces: Vec<&[u32]> = mesh.faces().collect();
+        assert_eq!(faces, [&[0, 1, 2][..], &[], &[3]]);
+    }
+
+    #[test]
+    fn long_lists_are_cut() {
+        assert_eq!(cut(&[1; 3]), "[1, 1, 1]");
+        assert!(cut(&[1; 24]).ends_with("1, 1]"));
+        assert!(cut(&[1; 25]).ends_with("1] and on to 25 elements"));
+    }
+
+    #[test]
+    fn a_write_to_a_mesh_and_a_wrong_buffer_are_seen() {
+        let fails = |probe: Probe<u64>| {
+            let mut mesh = Mesh::default();
+            mesh.coords.extend([0.0; 9]);
+            mesh.push_face([0, 1, 2]);
+            let mut line = Line::new("test");
+            let buffer = Lent::garbage(3, &mut Random::new(1));
+            line.ask(probe, &mesh, buffer, 0, &[7, 8]);
+            let mut report = Report::new();
+            line.add_to(&mut report, &[]);
+            report.failed()
+        };
+        fn right(out: &mut [u64]) -> u64 {
+            out[0] = 7;
+            out[1] = 8;
+            0
+        }
+        assert!(!fails(|_, out| right(out)));
+        assert!(fails(|_, out| right(out) + 1));
+        assert!(fails(|_, out| {
+            out[2] ^= 1;
+            right(out)
+        }));
+        assert!(fails(|_, out| {
+            right(out);
+            out[1] = 9;
+            0
+        }));
+        assert!(fails(|mesh, out| {
+            mesh.coords[8] = -0.0;
+            right(out)
+        }));
+        assert!(fails(|mesh, out| {
+            mesh.corners[2] = 0;
+            right(out)
+        }));
+        assert!(fails(|mesh, out| {
+            mesh.ends[0] = 0;
+            right(out)
+        }));
+    }
+
+    #[test]
+    fn outcomes_are_in_words() {
+        assert_eq!(Outcome::answered(1).text(), "1");
+        let refused = Outcome::answered(4_000_017);
+        assert_eq!(refused.text(), "refusal 4, place 17");
+    }
+
+    #[test]
+    fn a_line_that_never_saw_what_it_needs_fails() {
+        let fails = |needed| {
+            let mut line = Line::new("test");
+            line.compare(Outcome::answered(ROOM), ROOM, String::new);
+            let mut report = Report::new();
+            line.add_to(&mut report, needed);
+            report.failed()
+        };
+        assert!(!fails(&["refusal 6"]));
+        assert!(fails(&["refusal 5"]));
+    }
+}

@@ -1,0 +1,174 @@
+//! Lists that are lent to the engine, and what it left in them.
+
+use std::fmt;
+
+use crate::random::Random;
+
+/// An element of a lent list.
+pub trait Element: Copy {
+    /// What stands on both sides of a list. Read as a coordinate, a corner or an
+    /// end it gives a mesh that is refused.
+    const GUARD: Self;
+
+    /// An element of these bits.
+    fn from_bits(bits: u64) -> Self;
+
+    fn bits(self) -> u64;
+
+    /// Whether this was to be written. It is the same bits, except that any NaN
+    /// is any other.
+    fn same(self, other: Self) -> bool {
+        self.bits() == other.bits()
+    }
+}
+
+impl Element for f64 {
+    const GUARD: Self = f64::from_bits(0x7FF8_0000_0000_0754);
+
+    fn from_bits(bits: u64) -> Self {
+        f64::from_bits(bits)
+    }
+
+    fn bits(self) -> u64 {
+        self.to_bits()
+    }
+
+    fn same(self, other: Self) -> bool {
+        self.bits() == other.bits() || self.is_nan() && other.is_nan()
+    }
+}
+
+impl Element for u32 {
+    const GUARD: Self = u32::MAX;
+
+    fn from_bits(bits: u64) -> Self {
+        bits as u32
+    }
+
+    fn bits(self) -> u64 {
+        self.into()
+    }
+}
+
+impl Element for u64 {
+    const GUARD: Self = u64::MAX;
+
+    fn from_bits(bits: u64) -> Self {
+        bits
+    }
+
+    fn bits(self) -> u64 {
+        self
+    }
+}
+
+/// How many guards stand on either side of a list.
+const GUARDS: usize = 4;
+
+/// A list lent from the middle of a buffer, with guards on both sides.
+pub struct Lent<T> {
+    buffer: Vec<T>,
+    before: Vec<T>,
+}
+
+impl<T: Element> Lent<T> {
+    pub fn new(list: &[T]) -> Self {
+        let buffer = [&[T::GUARD; GUARDS], list, &[T::GUARD; GUARDS]].concat();
+        Self {
+            before: buffer.clone(),
+            buffer,
+        }
+    }
+
+    /// A list of random bit patterns, to be written to.
+    pub fn garbage(length: usize, random: &mut Random) -> Self {
+        let list: Vec<T> = (0..length).map(|_| T::from_bits(random.bits())).collect();
+        Self::new(&list)
+    }
+
+    pub fn list(&mut self) -> &mut [T] {
+        let end = self.buffer.len() - GUARDS;
+        &mut self.buffer[GUARDS..end]
+    }
+
+    pub fn length(&self) -> usize {
+        self.buffer.len() - 2 * GUARDS
+    }
+
+    /// The first place that does not hold what was to be written there, or was
+    /// changed where nothing was to be written.
+    pub fn wrong(&self, name: &'static str, written: &[T]) -> Option<Wrong> {
+        let end = GUARDS + written.len();
+        let place = (0..self.buffer.len()).find(|&i| {
+            if (GUARDS..end).contains(&i) {
+                !self.buffer[i].same(written[i - GUARDS])
+            } else {
+                self.buffer[i].bits() != self.before[i].bits()
+            }
+        })?;
+        let want = match place.checked_sub(GUARDS).and_then(|i| written.get(i)) {
+            Some(want) => want.bits(),
+            None => self.before[place].bits(),
+        };
+        Some(Wrong {
+            list: name,
+            place: place as i64 - GUARDS as i64,
+            got: self.buffer[place].bits(),
+            want,
+        })
+    }
+}
+
+/// A place of a list that is not as it should be.
+#[derive(Clone, Copy, PartialEq)]
+pub struct Wrong {
+    list: &'static str,
+    /// Negative before the list.
+    place: i64,
+    got: u64,
+    want: u64,
+}
+
+impl fmt::Display for Wrong {
+    fn fmt(&self, f: &mut fmt::Formatter) -> fmt::Result {
+        let Self {
+            list,
+            place,
+            got,
+            want,
+        } = self;
+        write!(f, "{list}[{place}] is {got:016X} and not {want:016X}")
+    }
+}
+
+#[cfg(test)]
+mod tests {
+    use super::*;
+
+    #[test]
+    fn a_change_of_the_front_and_of_the_rest_is_seen() {
+        let mut lent = Lent::new(&[1.0, f64::NAN, 3.0]);
+        assert_eq!(lent.length(), 3);
+        assert!(lent.wrong("list", &[]).is_none());
+        assert!(lent.wrong("list", &[2.0]).is_some());
+        lent.list()[0] = 2.0;
+        assert!(lent.wrong("list", &[2.0]).is_none());
+        let other = f64::from_bits(0xFFF8_0000_0000_0001);
+        assert!(lent.wrong("list", &[2.0, other]).is_none());
+        lent.list()[1] = other;
+        let wrong = lent.wrong("list", &[2.0]).expect("other bits");
+        assert!(wrong.to_string().starts_with("list[1] is FFF8"));
+    }
+
+    #[test]
+    fn writes_beside_a_list_are_seen() {
+        let mut after = Lent::new(&[1u32, 2]);
+        after.buffer[GUARDS + 2] = 0;
+        let wrong = after.wrong("list", &[]).expect("a guard");
+        assert_eq!(wrong.place, 2);
+        let mut before = Lent::new(&[1u32, 2]);
+        before.buffer[GUARDS - 1] = 0;
+        let wrong = before.wrong("list", &[]).expect("a guard");
+        assert_eq!(wrong.place, -1);
+    }
+}
