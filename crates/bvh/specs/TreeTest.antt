@@ -1,12 +1,13 @@
 -- The test that computes the tree rules. A node's box is compared with the join of the own boxes below it. Definitions, and the
 -- law by which a walk over items meets them; specs/TreeTheorem.antt says that the test and the rules agree.
-use Prim.Native.Nat.{ℕ, zero, suc, _+_, _-_, _*_, _<_}
+use Prim.Native.Nat.{ℕ, zero, suc, _+_, _-_, _*_, _≤_, _<_}
 use mathlib.Core.Bool.{Bool, true, false, cond, _&&_}
 use native.Mathlib.Omega.{arith}
-use mathlib.Core.Path.{_≡_}
+use mathlib.Core.Path.{_≡_, refl, _∙_}
 use mathlib.Core.List.{List}
 use lib.Dec.{eqb, leb, ltb}
 use lib.ListN.{length}
+use borrow.Author.Tests.{eq-eqb, ne-eqb, lt-ltb, le-ltb}
 use Rattle.keys.specs.Sorting.{count}
 use Rattle.math.specs.declared.BoundingBox.{BoundingBox}
 use Rattle.mesh.specs.Accepted.{Accepted}
@@ -97,3 +98,40 @@ unfolding joinFrom
 joinFrom-next m t b k end h =
     let more : end - k ≡ suc (end - (k + 1)) = omega arith in
     rw more
+
+-- a node that the tree does not have
+pub walk-out : (m : Mesh) (t : Tree) (depth n i : ℕ) → nodeCount t ≤ n → walk m t depth n i ≡ Fault
+unfolding walk
+walk-out m t zero n i h = refl
+walk-out m t (suc depth) n i h = rw (le-ltb n (nodeCount t) h)
+
+-- a leaf
+pub walk-leaf : (m : Mesh) (t : Tree) (depth n i : ℕ) → 0 < depth → n < nodeCount t → 0 < countOf t n → walk m t depth n i ≡ leafWalk m t n i
+unfolding walk
+walk-leaf m t zero n i some h any = absurd (omega arith)
+walk-leaf m t (suc depth) n i some h any =
+    let not-none : countOf t n ≡ 0 → ⊥ = λ z. omega arith in
+    rw (lt-ltb n (nodeCount t) h, ne-eqb (countOf t n) 0 not-none)
+
+module _ (m : Mesh) (t : Tree) (depth n i : ℕ) (some : 0 < depth) (h : n < nodeCount t) (none : countOf t n ≡ 0) where
+  inner-walk : (d : ℕ) → 0 < d → walk m t d n i ≡ boxed t n (rightChild (walk m t (d - 1)) (startOf t n) (walk m t (d - 1) (n + 1) i))
+  unfolding walk
+  inner-walk zero some = absurd (omega arith)
+  inner-walk (suc d) some =
+      let fewer : suc d - 1 ≡ d = omega arith in
+      rw (lt-ltb n (nodeCount t) h, eq-eqb (countOf t n) 0 none, fewer)
+
+  -- an inner node with a fault below its left child
+  pub left-faults : walk m t (depth - 1) (n + 1) i ≡ Fault → walk m t depth n i ≡ Fault
+  unfolding rightChild boxedBy
+  left-faults e = inner-walk depth some ∙ rw e
+
+  -- an inner node whose right child is not where its left subtree ends
+  pub left-ends-elsewhere : (node item : ℕ) (joined : BoundingBox) → walk m t (depth - 1) (n + 1) i ≡ Ends node item joined → (node ≡ startOf t n → ⊥) → walk m t depth n i ≡ Fault
+  unfolding rightChild boxedBy
+  left-ends-elsewhere node item joined e apart = inner-walk depth some ∙ rw (e, ne-eqb node (startOf t n) apart)
+
+  -- an inner node whose right child is
+  pub right-follows : (node item : ℕ) (joined : BoundingBox) → walk m t (depth - 1) (n + 1) i ≡ Ends node item joined → node ≡ startOf t n → walk m t depth n i ≡ boxed t n (withLeft joined (walk m t (depth - 1) node item))
+  unfolding rightChild
+  right-follows node item joined e there = inner-walk depth some ∙ rw (e, eq-eqb node (startOf t n) there)

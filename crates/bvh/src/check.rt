@@ -159,3 +159,65 @@ fn check_leaf(
         },
     )
 }
+
+// The walk over the subtree of node `n`, whose items begin at place `i`, with at most `depth` nodes on a
+// path.
+pub fn check_node(
+    coords: &[f64],
+    corners: &[u32],
+    ends: &[u32],
+    sides: usize,
+    boxes: &[f64],
+    nodes: &[u32],
+    items: &[u32],
+    depth: usize,
+    n: usize,
+    i: usize,
+) -> Walked
+    requires { ⌜ TreeTest.Lent (Tree.mesh (now coords) (now corners) (now ends)) sides (Tree.tree (now boxes) (now nodes) (now items)) ⌝ }
+    ensures { λ r. ⌜ r ≡ TreeTest.walk (Tree.mesh (now (coords .entry)) (now (corners .entry)) (now (ends .entry))) (Tree.tree (now (boxes .entry)) (now (nodes .entry)) (now (items .entry))) depth n i ⌝ }
+{
+    if depth == 0 {
+        return Walked::Fault;
+    }
+    if n >= nodes.len() / 2 {
+        return Walked::Fault;
+    }
+    let start = nodes[2 * n] as usize;
+    if nodes[2 * n + 1] > 0 {
+        return check_leaf(coords, corners, ends, sides, boxes, nodes, items, n, i);
+    }
+    let left = check_node(
+        coords,
+        corners,
+        ends,
+        sides,
+        boxes,
+        nodes,
+        items,
+        depth - 1,
+        n + 1,
+        i,
+    );
+    match left {
+        Walked::Fault => Walked::Fault,
+        Walked::Ends { node, item, joined } => {
+            if node != start {
+                return Walked::Fault;
+            }
+            let right = check_node(
+                coords,
+                corners,
+                ends,
+                sides,
+                boxes,
+                nodes,
+                items,
+                depth - 1,
+                start,
+                item,
+            );
+            boxed(node_box(boxes, n), with_left(joined, right))
+        }
+    }
+}
