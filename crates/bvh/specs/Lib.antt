@@ -4,6 +4,7 @@ pub mod TreeRules
 pub mod TreeTest
 pub mod TreeTheorem
 pub mod Once
+pub mod Counting
 pub mod JoinLaws
 pub mod Builder
 pub mod BuilderLaws

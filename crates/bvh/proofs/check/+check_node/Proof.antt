@@ -1,9 +1,8 @@
 -- `check_node` meets its contract: its tests are those of the definition, in its order. The depth falls with each call.
 use native.Mathlib.Nat.{pos-of-ne-zero}
 use native.Mathlib.Omega.{arith}
-use mathlib.Core.Path.{_≡_, sym, subst, _∙_}
+use mathlib.Core.Path.{_≡_, sym, _∙_}
 use borrow.Author.Needs.{needs}
-use borrow.Author.Tests.{eq-eqb, ne-eqb}
 use Rattle.bvh.specs.Tree.{mesh, tree, nodeCount, startOf, countOf}
 use Rattle.bvh.specs.TreeTest.{walk, walk-out, walk-leaf, left-faults, left-ends-elsewhere, right-follows}
 use Prim.Native.Nat.{ℕ, _-_, _*_, _<_}
