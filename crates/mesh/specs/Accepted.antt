@@ -11,6 +11,7 @@ use lib.Seq.{getD-take, getD-drop}
 use borrow.Author.Tests.{leb-true, eqb-true, ltb-true, ltb-false}
 use Rattle.math.specs.declared.Vec3.{Vec3}
 use Rattle.math.specs.Vectors as Vectors
+use Rattle.refusal.specs.declared.Refusal.{Refusal}
 use Rattle.refusal.specs.declared.Verdict.{Verdict}
 use Rattle.refusal.specs.declared.Verdict.the-variants.{Passed, Refused}
 use Rattle.refusal.specs.declared.Refusal.the-variants.{ShortFace, CornerOut, NotFinite}
@@ -122,6 +123,19 @@ accepted coords corners ends e =
 answered-accepted : (v : Verdict) (a found : Counts) → answered v a ≡ Answers.Accepted found → (v ≡ Passed) × (found ≡ a)
 answered-accepted Passed a found e = (refl, cc)
 answered-accepted (Refused refusal) a found e = (cc, cc)
+
+answered-refused : (v : Verdict) (a : Counts) (refusal : Refusal) → answered v a ≡ Answers.Refused refusal → v ≡ Refused refusal
+answered-refused Passed a refusal e = cc
+answered-refused (Refused other) a refusal e = cc
+
+-- the verdict behind an answer of questions 1 to 5
+pub asked-passed : (coords : List Float) (corners ends : List ℕ) (found : Counts) → meshAsked coords corners ends ≡ Answers.Accepted found → askMesh coords corners ends ≡ Passed
+unfolding meshAsked
+asked-passed coords corners ends found e = answered-accepted _ (counts coords corners ends) found e .0
+
+pub asked-refused : (coords : List Float) (corners ends : List ℕ) (refusal : Refusal) → meshAsked coords corners ends ≡ Answers.Refused refusal → askMesh coords corners ends ≡ Refused refusal
+unfolding meshAsked
+asked-refused coords corners ends refusal e = answered-refused _ (counts coords corners ends) refusal e
 
 -- what is known of a mesh once questions 1 to 5 are answered with counts
 pub asked : (coords : List Float) (corners ends : List ℕ) (found : Counts) → meshAsked coords corners ends ≡ Answers.Accepted found → Accepted coords corners ends × (found ≡ counts coords corners ends)

@@ -1,9 +1,12 @@
 -- Questions asked in their order: the first that says no decides. Definitions, and what a passed question says.
+use Prim.Native.Nat.{ℕ}
 use mathlib.Core.Path.{_≡_, refl}
 use mathlib.Core.Bool.{Bool, true, false, cond}
+use mathlib.Core.List.{List, []}
 use Rattle.refusal.specs.declared.Refusal.{Refusal}
 use Rattle.refusal.specs.declared.Verdict.{Verdict}
 use Rattle.refusal.specs.declared.Verdict.the-variants.{Passed, Refused}
+use Rattle.refusal.specs.Numbers.{code}
 
 -- a question: if its answer is no, the refusal
 abbrev pub ask : Bool → Refusal → Verdict
@@ -13,6 +16,16 @@ ask passed refusal = cond passed Passed (Refused refusal)
 abbrev pub then : Verdict → Verdict → Verdict
 then Passed next = next
 then (Refused refusal) next = Refused refusal
+
+-- the number that a C function returns: the refusal's, or else its answer
+abbrev pub returned : Verdict → ℕ → ℕ
+returned Passed answer = answer
+returned (Refused refusal) answer = code refusal
+
+-- what is written into a buffer: nothing if a question refuses
+unfoldable pub written : {A : Type 0} → Verdict → List A → List A
+written Passed list = list
+written (Refused refusal) list = []
 
 -- a question that passed was answered with yes
 pub ask-passed : (passed : Bool) (refusal : Refusal) → ask passed refusal ≡ Passed → passed ≡ true

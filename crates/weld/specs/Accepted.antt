@@ -17,6 +17,7 @@ use Rattle.math.specs.declared.Vec3.{Vec3}
 use Rattle.math.specs.Vectors.{isFinite, points, length-points}
 use Rattle.refusal.specs.declared.Verdict.{Verdict}
 use Rattle.refusal.specs.declared.Verdict.the-variants.{Passed, Refused}
+use Rattle.refusal.specs.Verdicts.{written}
 use Rattle.mesh.specs.declared.Triangle.{Triangle}
 use Rattle.mesh.specs.Triangles.{triangle}
 use Rattle.mesh.specs.Faces as Faces
@@ -24,7 +25,7 @@ use Rattle.mesh.specs.Questions.{wholeVertices, endsFit, facesFit, askLengths, 
 use Rattle.mesh.specs.Walks.{both}
 use Rattle.weld.specs.Welding.{find, add, addAll, degenerate, kept, facesAmong, numbers, cornersOf, endsFrom, vertices, faces, coords, corners, ends}
 use Rattle.weld.specs.declared.Welded.the-variants.{Sizes}
-use Rattle.weld.specs.Questions.{wholeTriangles, askCorners, weldAnswer, written, Welds}
+use Rattle.weld.specs.Questions.{wholeTriangles, askCorners, weldAnswer, Welds}
 use Rattle.weld.specs.Finding.{find-le, add-new, add-found, length-addAll, find-below}
 use Rattle.weld.specs.Lists.{length-numbers, points-numbers, length-cornersOf, cornersOf-append, length-endsFrom, length-facesAmong}
 use Rattle.weld.specs.Passed.{whole-passed, triangles-passed, finite-head, same-self}

@@ -2,7 +2,7 @@
 use Prim.Native.Nat.{ℕ, _*_, _/_, _%_}
 use mathlib.Core.Bool.{Bool, _&&_}
 use mathlib.Core.Path.{_≡_}
-use mathlib.Core.List.{List, []}
+use mathlib.Core.List.{List}
 use lib.Dec.{eqb, leb}
 use lib.Ieee.{Float}
 use lib.ListN.{length}
@@ -11,7 +11,7 @@ use Rattle.math.specs.Vectors.{points}
 use Rattle.refusal.specs.declared.Refusal.the-variants.{Coordinates, Room}
 use Rattle.refusal.specs.declared.Verdict.{Verdict}
 use Rattle.refusal.specs.declared.Verdict.the-variants as Verdicts
-use Rattle.refusal.specs.Verdicts.{ask, then}
+use Rattle.refusal.specs.Verdicts.{ask, then, written}
 use Rattle.mesh.specs.Questions.{askVertices}
 use Rattle.weld.specs.declared.Welded.{Welded}
 use Rattle.weld.specs.declared.Welded.the-variants.{Refused, Sizes}
@@ -44,11 +44,6 @@ verdict triangles coords corners ends = askTriangles triangles (length coords) (
 unfoldable pub weldAnswer : Verdict → List Float → Welded
 weldAnswer Verdicts.Passed triangles = Sizes (length (Welding.vertices triangles)) (length (Welding.faces triangles))
 weldAnswer (Verdicts.Refused refusal) triangles = Refused refusal
-
--- what is written into a buffer: nothing if a question refuses
-unfoldable pub written : {A : Type 0} → Verdict → List A → List A
-written Verdicts.Passed list = list
-written (Verdicts.Refused refusal) list = []
 
 -- what `from_triangles` promises: its answer, and of each buffer, lent as ₀ and left as ₁, the written front and the rest as it was
 pub record Welds (triangles coords₀ : List Float) (corners₀ ends₀ : List ℕ) (result : Welded) (coords₁ : List Float) (corners₁ ends₁ : List ℕ) : Type 0 where

@@ -7,9 +7,10 @@ use lib.Ieee.{Float}
 use Rattle.lent.specs.Over.{over}
 use Rattle.refusal.specs.declared.Refusal.{Refusal}
 use Rattle.refusal.specs.declared.Verdict.the-variants as Verdicts
+use Rattle.refusal.specs.Verdicts.{written}
 use Rattle.weld.specs.declared.Counts.{Counts}
 use Rattle.weld.specs.declared.Welded.the-variants.{Refused, Sizes}
-use Rattle.weld.specs.Questions.{verdict, weldAnswer, written, Welds}
+use Rattle.weld.specs.Questions.{verdict, weldAnswer, Welds}
 use Rattle.weld.specs.Steps.{WeldsAll}
 use Rattle.weld.specs.Passed.{triangles-passed}
 use borrow.Author.Needs.{needs}
