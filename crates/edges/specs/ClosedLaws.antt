@@ -2,12 +2,12 @@
 -- The first follows from the counts of the keys alone. For the second, the new key is made of the old one (`rekey`), and different keys stay different.
 use Prim.Native.Nat.{ℕ, _+_, _/_, _%_, _≤_, _<_}
 use native.Mathlib.Omega.{arith}
-use mathlib.Core.Path.{_≡_, refl, sym, ap, _∙_}
+use mathlib.Core.Path.{_≡_, refl, sym, _∙_}
 use mathlib.Core.Logic.{⊎-elim}
-use mathlib.Core.List.{List, [], _∷_, _++_, map, map-append, flatten}
-use borrow.Author.Tests.{eq-eqb, ne-eqb}
+use mathlib.Core.List.{List, [], _∷_, map, map-append, flatten}
 use Rattle.keys.specs.Sorting.{count, Permutation, All}
-use Rattle.keys.specs.SortingTheorems.{le-or-lt, eq-or-ne, all-map, sorted-permuted}
+use Rattle.keys.specs.SortingTheorems.{le-or-lt, all-map, sorted-permuted}
+use Rattle.keys.specs.Permutations.{count-append, count-map}
 use Rattle.lent.specs.Reordered.{Reordered}
 use Rattle.lent.specs.ReorderedLaws.{reordered-sum, length-reordered}
 use Rattle.edges.specs.Edges.{edgeKey, keysFrom, faceKeys, edgeKeys, twiceIn, closed}
@@ -16,11 +16,6 @@ use Rattle.edges.specs.EdgeLaws.{edgeKey-min, edgeKey-swap, edgeKey-same
 use Rattle.edges.specs.PairLaws.{closedKeys-closed}
 
 -- ---- the order of the faces
-
-count-append : (k : ℕ) (l m : List ℕ) → count k (l ++ m) ≡ count k l + count k m
-unfolding count
-count-append k [] m = omega arith
-count-append k (x ∷ l) m = omega (arith, count-append k l m)
 
 -- each key stands as often
 pub edgeKeys-reordered : {fs gs : List (List ℕ)} → Reordered fs gs → Permutation (edgeKeys fs) (edgeKeys gs)
@@ -35,22 +30,11 @@ closed-reordered {fs} {gs} r =
 
 -- ---- the numbers of the vertices
 
--- a map that keeps different keys different keeps how often each stands
 module _ (f : ℕ → ℕ) (P : ℕ → Type 0) (one-to-one : (j k : ℕ) → P j → P k → f j ≡ f k → j ≡ k) where
-  count-map : (k : ℕ) (l : List ℕ) → P k → All P l → count (f k) (map f l) ≡ count k l
-  unfolding All count
-  count-map k [] p a = refl
-  count-map k (x ∷ l) p a =
-      let rest = count-map k l p (a .1) in
-      ⊎-elim
-      (λ e. rw (eq-eqb k x e, eq-eqb (f k) (f x) (ap f e), rest))
-      (λ n. rw (ne-eqb k x n, ne-eqb (f k) (f x) (λ e. n (one-to-one k x p (a .0) e)), rest))
-      (eq-or-ne k x)
-
   twiceIn-map : (keys l : List ℕ) → All P keys → All P l → twiceIn (map f keys) (map f l) ≡ twiceIn keys l
   unfolding All twiceIn
   twiceIn-map keys [] a b = refl
-  twiceIn-map keys (k ∷ l) a b = rw (count-map k keys (b .0) a, twiceIn-map keys l a (b .1))
+  twiceIn-map keys (k ∷ l) a b = rw (count-map f P one-to-one k keys (b .0) a, twiceIn-map keys l a (b .1))
 
 -- the key of an edge whose vertices are renumbered
 rekey : (ℕ → ℕ) → ℕ → ℕ

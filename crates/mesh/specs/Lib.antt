@@ -6,6 +6,7 @@ pub mod Walks
 pub mod Accepted
 pub mod TriangleLaws
 pub mod Boxes
+pub mod Centers
 pub mod Corners
 pub mod PermutedBoxes
 pub mod Rewriting

@@ -3,6 +3,7 @@
 ghost use mathlib.Core.Path.{_≡_};
 ghost use Prim.Native.Nat.{_+_, _*_, _<_};
 ghost use lib.ListN.{length};
+ghost use Rattle.math.specs.Vectors.{component};
 ghost use Rattle.mesh.specs.Boxes as Boxes;
 use crate::Triangle;
 use math::BoundingBox;
@@ -41,6 +42,20 @@ pub fn triangle_center(coords: &[f64], t: Triangle) -> Vec3
     ensures { λ r. ⌜ r ≡ Boxes.triangleCenter (now (coords .entry)) t ⌝ }
 {
     triangle_box(coords, t).center()
+}
+
+// The centre of a triangle's own box on axis 0, 1 or 2: that axis alone is worked out.
+pub fn center_on(coords: &[f64], t: Triangle, axis: usize) -> f64
+    requires { ⌜ Boxes.Corners (now coords) t × (axis < 3) ⌝ }
+    ensures { λ r. ⌜ r ≡ component (Boxes.triangleCenter (now (coords .entry)) t) axis ⌝ }
+{
+    let a = coords[3 * (t.a as usize) + axis];
+    let b = coords[3 * (t.b as usize) + axis];
+    let c = coords[3 * (t.c as usize) + axis];
+    let inf = f64::from_bits(0x7FF0_0000_0000_0000);
+    let low = float::min(float::min(float::min(inf, a), b), c);
+    let high = float::max(float::max(float::max(-inf, a), b), c);
+    (low + high) * 0.5
 }
 
 // The box of all vertices, used or not.

@@ -1,0 +1,14 @@
+-- What the builder's functions take for granted. Definitions only.
+use Prim.Native.Nat.{ℕ, _-_, _*_, _<_}
+use mathlib.Core.Path.{_≡_}
+use mathlib.Core.List.{List}
+use lib.ListN.{length, getD}
+use Rattle.mesh.specs.Accepted.{Accepted}
+use Rattle.mesh.specs.Triangles as Triangles
+use Rattle.bvh.specs.Tree.{Mesh}
+
+-- an accepted mesh, `sides`, which says how triangles are found in it, and the items of a node, which are triangles of it
+pub record Items (m : Mesh) (given : ℕ) (items : List ℕ) : Type 0 where
+  pub accepted : Accepted (m .coords) (m .corners) (m .ends)
+  pub sides : given ≡ Triangles.sides (m .ends)
+  pub below : (j : ℕ) → j < length items → getD items j 0 < length (m .corners) - 2 * length (m .ends)

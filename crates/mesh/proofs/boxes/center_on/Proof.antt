@@ -1,0 +1,107 @@
+-- `center_on` meets its contract: a triangle's centre on one axis depends on that axis alone.
+use lib.Ieee.{ofBits, nanBits, neg}
+use borrow.Author.Needs.{needs}
+use Rattle.mesh.specs.Centers.{center-on}
+use Rattle.mesh.proofs.boxes.center_on.Statement.{statement}
+use Rattle.mesh.proofs.boxes.center_on.Tie as tie
+
+cast-a : tie.Need-cast-a
+cast-a c = search needs
+
+mul-a : tie.Need-mul-a
+mul-a c = search needs
+
+add-a : tie.Need-add-a
+add-a c = search needs
+
+mul-a-2 : tie.Need-mul-a-2
+mul-a-2 c = search needs
+
+shared-slice-read-a : tie.Need-shared-slice-read-a
+shared-slice-read-a c = search needs
+
+cast-b : tie.Need-cast-b
+cast-b c = search needs
+
+mul-b : tie.Need-mul-b
+mul-b c = search needs
+
+add-b : tie.Need-add-b
+add-b c = search needs
+
+mul-b-2 : tie.Need-mul-b-2
+mul-b-2 c = search needs
+
+shared-slice-read-b : tie.Need-shared-slice-read-b
+shared-slice-read-b c = search needs
+
+cast-c : tie.Need-cast-c
+cast-c c = search needs
+
+mul-c : tie.Need-mul-c
+mul-c c = search needs
+
+add-c : tie.Need-add-c
+add-c c = search needs
+
+mul-c-2 : tie.Need-mul-c-2
+mul-c-2 c = search needs
+
+shared-slice-read-c : tie.Need-shared-slice-read-c
+shared-slice-read-c c = search needs
+
+float-from-bits-inf : tie.Need-float-from-bits-inf
+unfolding nanBits
+float-from-bits-inf c = tt
+
+min-requires : tie.Need-min-requires
+min-requires c κs = search needs
+
+min-requires-2 : tie.Need-min-requires-2
+min-requires-2 c κs = search needs
+
+min-requires-3 : tie.Need-min-requires-3
+min-requires-3 c κs = search needs
+
+max-requires : tie.Need-max-requires
+max-requires c κs = search needs
+
+max-requires-2 : tie.Need-max-requires-2
+max-requires-2 c κs = search needs
+
+max-requires-3 : tie.Need-max-requires-3
+max-requires-3 c κs = search needs
+
+returns : tie.Need-returns
+unfolding ofBits neg
+returns c =
+    let a = c .before .before .before .before .before .before .before .before .before .before .before .before .before .args in
+    rw (c .max3 .ensures, c .before .max2 .ensures, c .before .before .max .ensures, c .before .before .before .min3 .ensures, c .before .before .before .before .min2 .ensures, c .before .before .before .before .before .min .ensures, center-on (a .coords .now) (a .t) (a .axis) (c .before .before .before .before .before .before .before .before .before .before .before .before .before .pre .1))
+
+pub center-on-spec : {M : Type 1} → statement M
+center-on-spec =
+    tie.close
+    (tie.spec
+    cast-a
+    mul-a
+    add-a
+    mul-a-2
+    shared-slice-read-a
+    cast-b
+    mul-b
+    add-b
+    mul-b-2
+    shared-slice-read-b
+    cast-c
+    mul-c
+    add-c
+    mul-c-2
+    shared-slice-read-c
+    float-from-bits-inf
+    min-requires
+    min-requires-2
+    min-requires-3
+    max-requires
+    max-requires-2
+    max-requires-3
+    returns)
