@@ -10,3 +10,6 @@ pub mod Builder
 pub mod BuilderLaws
 pub mod BuilderTheorem
 pub mod BuilderSize
+pub mod Node
+pub mod Median
+pub mod MedianLaws

@@ -12,3 +12,13 @@ pub record Items (m : Mesh) (given : ℕ) (items : List ℕ) : Type 0 where
   pub accepted : Accepted (m .coords) (m .corners) (m .ends)
   pub sides : given ≡ Triangles.sides (m .ends)
   pub below : (j : ℕ) → j < length items → getD items j 0 < length (m .corners) - 2 * length (m .ends)
+
+-- one triangle of it
+pub record Item (m : Mesh) (given t : ℕ) : Type 0 where
+  pub accepted : Accepted (m .coords) (m .corners) (m .ends)
+  pub sides : given ≡ Triangles.sides (m .ends)
+  pub below : t < length (m .corners) - 2 * length (m .ends)
+
+-- the item at a place
+pub item-at : {m : Mesh} {sides : ℕ} {items : List ℕ} → Items m sides items → (j : ℕ) → j < length items → Item m sides (getD items j 0)
+item-at a j h = record { accepted = a .accepted; sides = a .sides; below = a .below j h }

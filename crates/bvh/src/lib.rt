@@ -2,3 +2,4 @@
 // The definitions are in specs/.
 pub mod check;
 pub mod items;
+pub mod median;
