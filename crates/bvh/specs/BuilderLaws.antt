@@ -11,6 +11,7 @@ use lib.ListN.{length, take, drop, length-take, length-drop, length-append, take
 use borrow.Author.Tests.{le-leb, lt-leb}
 use Rattle.keys.specs.Sorting.{count, All}
 use Rattle.keys.specs.SortingTheorems.{le-or-lt, all-sortedBy, sortedBy-sum, length-sortedBy}
+use Rattle.keys.specs.Permutations.{all-append}
 use Rattle.math.specs.declared.BoundingBox.{BoundingBox}
 use Rattle.mesh.specs.Walks.{both}
 use Rattle.bvh.specs.Tree.{Mesh, ownBox, encloses}
@@ -68,11 +69,6 @@ length-treeOver m items = sum-build (λ l. length l) (λ x. 1) refl (λ x l. ome
 -- ---- what holds of every item
 
 module _ (P : ℕ → Type 0) where
-  all-append : (a b : List ℕ) → All P a → All P b → All P (a ++ b)
-  unfolding All
-  all-append [] b p q = q
-  all-append (x ∷ a) b p q = (p .0, all-append a b (p .1) q)
-
   all-parts : (i : ℕ) (l : List ℕ) → All P l → All P (take i l) × All P (drop i l)
   unfolding All
   all-parts zero l p = (tt, p)
@@ -93,7 +89,7 @@ module _ (P : ℕ → Type 0) where
         let halves = all-halves items p in
         ⊎-elim
         (λ few. rw (le-leb (length items) 4 few) p)
-        (λ many. rw (lt-leb (length items) 4 many) (all-append _ _ (all-build fuel _ (halves .0)) (all-build fuel _ (halves .1))))
+        (λ many. rw (lt-leb (length items) 4 many) (all-append P _ _ (all-build fuel _ (halves .0)) (all-build fuel _ (halves .1))))
         (le-or-lt (length items) 4)
 
     -- what holds of every item holds of what the tree over them names

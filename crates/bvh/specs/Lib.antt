@@ -13,3 +13,4 @@ pub mod BuilderSize
 pub mod Node
 pub mod Median
 pub mod MedianLaws
+pub mod MedianTheorem

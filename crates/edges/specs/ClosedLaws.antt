@@ -7,12 +7,12 @@ use mathlib.Core.Logic.{⊎-elim}
 use mathlib.Core.List.{List, [], _∷_, map, map-append, flatten}
 use Rattle.keys.specs.Sorting.{count, Permutation, All}
 use Rattle.keys.specs.SortingTheorems.{le-or-lt, all-map, sorted-permuted}
-use Rattle.keys.specs.Permutations.{count-append, count-map}
+use Rattle.keys.specs.Permutations.{all-split, count-append, count-map}
 use Rattle.lent.specs.Reordered.{Reordered}
 use Rattle.lent.specs.ReorderedLaws.{reordered-sum, length-reordered}
 use Rattle.edges.specs.Edges.{edgeKey, keysFrom, faceKeys, edgeKeys, twiceIn, closed}
 use Rattle.edges.specs.Below.{Below}
-use Rattle.edges.specs.EdgeLaws.{edgeKey-min, edgeKey-swap, edgeKey-same, all-split, all-edgeKeys}
+use Rattle.edges.specs.EdgeLaws.{edgeKey-min, edgeKey-swap, edgeKey-same, all-edgeKeys}
 use Rattle.edges.specs.PairLaws.{closedKeys-closed}
 
 -- ---- the order of the faces

@@ -13,6 +13,7 @@ use lib.Ieee.{Float}
 use borrow.Author.Tests.{leb-true, eqb-true, le-leb, lt-leb}
 use Rattle.keys.specs.Sorting.{All, Small}
 use Rattle.keys.specs.SortingTheorems.{le-or-lt, eq-or-ne, all-at, all-of}
+use Rattle.keys.specs.Permutations.{all-append, all-split}
 use Rattle.mesh.specs.Faces.{faces, facesFrom}
 use Rattle.mesh.specs.Questions.{endsFit}
 use Rattle.mesh.specs.Walks.{both}
@@ -91,17 +92,6 @@ length-edgeKeys corners ends e = length-keys (faces corners ends) ∙ ap length 
 
 -- ---- what holds of every key
 
-module _ (P : ℕ → Type 0) where
-  pub all-split : (l m : List ℕ) → All P (l ++ m) → All P l × All P m
-  unfolding All
-  all-split [] m a = (tt, a)
-  all-split (x ∷ l) m a = let rest = all-split l m (a .1) in ((a .0, rest .0), rest .1)
-
-  all-join : (l m : List ℕ) → All P l → All P m → All P (l ++ m)
-  unfolding All
-  all-join [] m a b = b
-  all-join (x ∷ l) m a b = (a .0, all-join l m (a .1) b)
-
 -- what holds of the key of any two corners holds of every key
 module _ (P Q : ℕ → Type 0) (of-two : (a b : ℕ) → P a → P b → Q (edgeKey a b)) where
   all-keysFrom : (first : ℕ) (l : List ℕ) → P first → All P l → All Q (keysFrom first l)
@@ -120,7 +110,7 @@ module _ (P Q : ℕ → Type 0) (of-two : (a b : ℕ) → P a → P b → Q (edg
   all-edgeKeys [] a = tt
   all-edgeKeys (face ∷ rest) a =
       let parts = all-split P face (flatten rest) a in
-      all-join Q (faceKeys face) (edgeKeys rest) (all-faceKeys face (parts .0)) (all-edgeKeys rest (parts .1))
+      all-append Q (faceKeys face) (edgeKeys rest) (all-faceKeys face (parts .0)) (all-edgeKeys rest (parts .1))
 
 -- the corners of an accepted mesh are below 65,536
 pub accepted-below : {coords : List Float} {corners ends : List ℕ} → Accepted coords corners ends → Below 65536 corners
