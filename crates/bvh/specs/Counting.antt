@@ -13,6 +13,7 @@ use lib.Seq.{take-suc, getD-set-same, getD-set-other}
 use borrow.Author.Tests.{eq-eqb, ne-eqb}
 use Rattle.keys.specs.Sorting.{count}
 use Rattle.keys.specs.SortingTheorems.{eq-or-ne}
+use Rattle.bvh.specs.Once.{one-le}
 use Rattle.bvh.specs.TreeTest.{onceBelow}
 
 -- the first n places hold 0
@@ -22,6 +23,11 @@ Zero n work = (k : ℕ) → k < n → getD work k 0 ≡ 0
 -- what counting leaves in the work places, lent as ₀: the counts in the first n, and the rest as it was
 pub record Counted (items : List ℕ) (n : ℕ) (work₀ work : List ℕ) : Type 0 where
   pub counts : (k : ℕ) → k < n → getD work k 0 ≡ count k items
+  pub rest : drop n work ≡ drop n work₀
+
+-- what `items_once` promises: whether there are n items and each number below n stands once among them, and the places from n on as they were
+pub record CountsOnce (items : List ℕ) (n : ℕ) (work₀ : List ℕ) (result : Bool) (work : List ℕ) : Type 0 where
+  pub answer : result ≡ (eqb (length items) n && onceBelow n items)
   pub rest : drop n work ≡ drop n work₀
 
 -- whether each of the first n places holds 1
@@ -48,10 +54,6 @@ pub count-le : (k : ℕ) (l : List ℕ) → count k l ≤ length l
 unfolding count
 count-le k [] = omega arith
 count-le k (x ∷ l) = omega (arith, one-le (eqb k x), count-le k l)
-  where
-    one-le : (b : Bool) → cond b 1 0 ≤ 1
-    one-le true = omega arith
-    one-le false = omega arith
 
 count-append : (k : ℕ) (l l' : List ℕ) → count k (l ++ l') ≡ count k l + count k l'
 unfolding count

@@ -5,7 +5,7 @@ use mathlib.Core.Bool.{Bool, true, false, cond, _&&_, _||_}
 use lib.Dec.{T}
 use lib.Ieee.{Float, eq, ne, lt, le, isNan}
 use lib.Ieee.Bits.{is-true}
-use lib.Ieee.Fits.{and-l, and-r}
+use lib.Ieee.Fits.{and-i, and-l, and-r}
 use Rattle.float.specs.Rules as Rules
 use Rattle.float.specs.Tests.{same}
 use Rattle.float.specs.Order.{Number, le-refl, le-trans, le-antisym, lt-number-left, lt-number-right, le-min, min-le-left, min-le-right, max-le, le-max-left, le-max-right}
@@ -28,25 +28,20 @@ pub record NumberBox (b : BoundingBox) : Type 0 where
   pub min : NumberVec (b .min)
   pub max : NumberVec (b .max)
 
--- two tests that hold hold together
-and-both : (a b : Bool) → T a → T b → T (a && b)
-and-both true b p q = q
-and-both false b p q = p
-
 -- ---- edges
 
 -- what is at most a minimum is what is at most both
 at-most-min : (c a b : Float) → Number a → Number b → le c (Rules.min a b) ≡ (le c a && le c b)
 at-most-min c a b p q =
     same (le c (Rules.min a b)) (le c a && le c b)
-    (λ h. and-both (le c a) (le c b) (le-trans c (Rules.min a b) a h (min-le-left a b p q)) (le-trans c (Rules.min a b) b h (min-le-right a b p q)))
+    (λ h. and-i (le c a) (le c b) (le-trans c (Rules.min a b) a h (min-le-left a b p q)) (le-trans c (Rules.min a b) b h (min-le-right a b p q)))
     (λ h. le-min c a b (and-l (le c a) (le c b) h) (and-r (le c a) (le c b) h))
 
 -- what a maximum is at most is what both are at most
 max-at-most : (a b c : Float) → Number a → Number b → le (Rules.max a b) c ≡ (le a c && le b c)
 max-at-most a b c p q =
     same (le (Rules.max a b) c) (le a c && le b c)
-    (λ h. and-both (le a c) (le b c) (le-trans a (Rules.max a b) c (le-max-left a b p q) h) (le-trans b (Rules.max a b) c (le-max-right a b p q) h))
+    (λ h. and-i (le a c) (le b c) (le-trans a (Rules.max a b) c (le-max-left a b p q) h) (le-trans b (Rules.max a b) c (le-max-right a b p q) h))
     (λ h. max-le a b c (and-l (le a c) (le b c) h) (and-r (le a c) (le b c) h))
 
 -- ---- boxes

@@ -6,6 +6,7 @@ pub mod TreeTheorem
 pub mod Once
 pub mod Counting
 pub mod JoinLaws
+pub mod Check
 pub mod Builder
 pub mod BuilderLaws
 pub mod BuilderTheorem

@@ -61,7 +61,8 @@ unfolding standing
 standing-once zero l once = refl
 standing-once (suc k) l once = omega (arith, once k (omega arith), standing-once k l (λ j h. once j (omega arith)))
 
-one-le : (b : Bool) → cond b 1 0 ≤ 1
+-- a test counts at most once
+pub one-le : (b : Bool) → cond b 1 0 ≤ 1
 one-le true = omega arith
 one-le false = omega arith
 

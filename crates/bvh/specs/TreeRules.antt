@@ -33,7 +33,7 @@ pub data Subtree (m : Mesh) (t : Tree) : (depth n i node item : ℕ) → Type 0 
 
 -- the rules
 pub record TreeRules (m : Mesh) (t : Tree) : Type 0 where
-  -- the lists have exactly the lengths that the tree needs
+  -- the lists have exactly the lengths that the tree needs; nodeCount is half of `nodes`, rounded down, so no number is left over there
   pub boxes : length (t .boxes) ≡ 6 * nodeCount t
   pub nodes : length (t .nodes) ≡ 2 * nodeCount t
   pub items : length (t .items) ≡ triangleCount m

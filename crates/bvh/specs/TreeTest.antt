@@ -1,5 +1,5 @@
 -- The test that computes the tree rules. A node's box is compared with the join of the own boxes below it. Definitions, and the
--- law by which a walk over items meets them; specs/TreeTheorem.antt says that the test and the rules agree.
+-- laws that the code's walk uses; specs/TreeTheorem.antt says that the test and the rules agree.
 use Prim.Native.Nat.{ℕ, zero, suc, _+_, _-_, _*_, _≤_, _<_}
 use mathlib.Core.Bool.{Bool, true, false, cond, _&&_}
 use native.Mathlib.Omega.{arith}
@@ -75,6 +75,10 @@ unfoldable pub onceBelow : ℕ → List ℕ → Bool
 onceBelow zero items = true
 onceBelow (suc k) items = eqb (count k items) 1 && onceBelow k items
 
+-- no nodes if there are no triangles; else the root's subtree has all nodes and all item places
+unfoldable pub rootTest : Mesh → Tree → Bool
+rootTest m t = cond (eqb (triangleCount m) 0) (eqb (nodeCount t) 0) (endsAt (walk m t 32 0 0) (nodeCount t) (triangleCount m))
+
 -- whether the tree keeps the rules
 unfoldable pub treeTest : Mesh → Tree → Bool
 treeTest m t =
@@ -82,7 +86,7 @@ treeTest m t =
     && eqb (length (t .nodes)) (2 * nodeCount t)
     && eqb (length (t .items)) (triangleCount m)
     && onceBelow (triangleCount m) (t .items)
-    && cond (eqb (triangleCount m) 0) (eqb (nodeCount t) 0) (endsAt (walk m t 32 0 0) (nodeCount t) (triangleCount m))
+    && rootTest m t
 
 -- what the walk takes for granted of an accepted mesh, of `sides`, which says how triangles are found in it, and of the lent lists
 pub record Lent (m : Mesh) (given : ℕ) (t : Tree) : Type 0 where

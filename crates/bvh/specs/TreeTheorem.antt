@@ -17,7 +17,7 @@ use Rattle.bvh.specs.declared.check.Walked.{Walked}
 use Rattle.bvh.specs.declared.check.Walked.the-variants.{Fault, Ends}
 use Rattle.bvh.specs.Tree.{Mesh, Tree, triangleCount, ownBox, nodeCount, boxOf, startOf, countOf, itemAt, encloses}
 use Rattle.bvh.specs.TreeRules.{Around, Subtree, leaf, inner, TreeRules}
-use Rattle.bvh.specs.TreeTest.{joinFrom, joinItems, boxedBy, boxed, withLeft, rightChild, leafWalk, walk, endsAt, onceBelow, treeTest}
+use Rattle.bvh.specs.TreeTest.{joinFrom, joinItems, boxedBy, boxed, withLeft, rightChild, leafWalk, walk, endsAt, onceBelow, rootTest, treeTest}
 use Rattle.bvh.specs.Builder.{join}
 use Rattle.bvh.specs.JoinLaws.{NumberBox, encloses-join, join-numbers, ownBox-numbers}
 
@@ -252,7 +252,8 @@ module _ (m : Mesh) (t : Tree) where
 
 -- ---- the rules
 
-once-sound : (k : ℕ) (items : List ℕ) → onceBelow k items ≡ true → (j : ℕ) → j < k → count j items ≡ 1
+-- where the test says so, each number below k stands once in the list
+pub once-sound : (k : ℕ) (items : List ℕ) → onceBelow k items ≡ true → (j : ℕ) → j < k → count j items ≡ 1
 unfolding onceBelow
 once-sound zero items e j h = absurd (omega arith)
 once-sound (suc k) items e j h =
@@ -278,8 +279,8 @@ root-sound m t false some e =
     let end = ends-sound _ _ _ e in
     inr (positive (triangleCount m) some, walk-sound m t 32 0 0 (nodeCount t) (triangleCount m) (end .0) (end .1) .tree)
 
-root-complete : (m : Mesh) (t : Tree) → length (t .items) ≡ triangleCount m → ((triangleCount m ≡ 0) × (nodeCount t ≡ 0)) ⊎ ((0 < triangleCount m) × Subtree m t 32 0 0 (nodeCount t) (triangleCount m)) → cond (eqb (triangleCount m) 0) (eqb (nodeCount t) 0) (endsAt (walk m t 32 0 0) (nodeCount t) (triangleCount m)) ≡ true
-unfolding endsAt
+root-complete : (m : Mesh) (t : Tree) → length (t .items) ≡ triangleCount m → ((triangleCount m ≡ 0) × (nodeCount t ≡ 0)) ⊎ ((0 < triangleCount m) × Subtree m t 32 0 0 (nodeCount t) (triangleCount m)) → rootTest m t ≡ true
+unfolding rootTest endsAt
 root-complete m t long (inl none) = rw (eq-eqb _ _ (none .0), eq-eqb _ _ (none .1))
 root-complete m t long (inr some) =
     let not-none : triangleCount m ≡ 0 → ⊥ = λ z. omega (arith, some .0) in
@@ -288,9 +289,9 @@ root-complete m t long (inr some) =
 
 -- a tree that passes the test keeps the rules
 pub sound : (m : Mesh) (t : Tree) → treeTest m t ≡ true → TreeRules m t
-unfolding treeTest
+unfolding treeTest rootTest
 sound m t e =
-    let last = both _ (cond (eqb (triangleCount m) 0) (eqb (nodeCount t) 0) (endsAt (walk m t 32 0 0) (nodeCount t) (triangleCount m))) e in
+    let last = both _ (rootTest m t) e in
     let third = both _ (onceBelow (triangleCount m) (t .items)) (last .0) in
     let second = both _ (eqb (length (t .items)) (triangleCount m)) (third .0) in
     let first = both (eqb (length (t .boxes)) (6 * nodeCount t)) (eqb (length (t .nodes)) (2 * nodeCount t)) (second .0) in
