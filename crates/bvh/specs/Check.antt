@@ -2,9 +2,10 @@
 -- Definitions, and the theorem that the check accepts exactly the trees that keep the tree rules.
 use Prim.Native.Nat.{ℕ, _≤_}
 use mathlib.Core.Path.{_≡_}
+use mathlib.Core.Bool.{Bool}
 use mathlib.Core.List.{List}
 use lib.Dec.{leb}
-use lib.ListN.{length, replicate}
+use lib.ListN.{length, drop, replicate}
 use borrow.Author.Tests.{leb-true}
 use Rattle.lent.specs.Over.{over}
 use Rattle.refusal.specs.declared.Refusal.the-variants as Refusals
@@ -29,6 +30,11 @@ askTree m t = ask (treeTest m t) Refusals.Tree
 -- the answer of the tree check: questions 1 to 7
 unfoldable pub checkAnswer : Mesh → Tree → ℕ → Verdict
 checkAnswer m t work = then (askRoom m work) (askTree m t)
+
+-- what `keeps_rules` promises: whether the tree keeps the rules, and the work places behind those that are needed as they were
+pub record Keeps (m : Mesh) (t : Tree) (work₀ : List ℕ) (result : Bool) (work₁ : List ℕ) : Type 0 where
+  pub answer : result ≡ treeTest m t
+  pub rest : drop (length (m .corners)) work₁ ≡ drop (length (m .corners)) work₀
 
 -- what `ask_tree` promises: question 7, and of the work places, lent as ₀ and left as ₁, a 0 for each corner and the rest as it was
 pub record AsksTree (m : Mesh) (t : Tree) (work₀ : List ℕ) (result : Verdict) (work₁ : List ℕ) : Type 0 where

@@ -3,14 +3,15 @@
 use Prim.Native.Nat.{ℕ, zero, suc, _+_, _-_, _≤_, _<_}
 use native.Mathlib.Numerals.{add-one}
 use native.Mathlib.Omega.{arith}
-use mathlib.Core.Path.{_≡_, refl}
+use mathlib.Core.Path.{_≡_, refl, _∙_}
 use mathlib.Core.Logic.{⊎-elim}
-use mathlib.Core.Bool.{Bool, true, false, cond, _&&_}
+use mathlib.Core.Bool.{Bool, true, cond, _&&_}
 use mathlib.Core.List.{List, [], _∷_, _++_}
 use lib.Dec.{eqb}
-use lib.ListN.{length, getD, take, drop, set}
+use lib.ListN.{length, getD, take, drop, set, replicate, length-replicate, getD-replicate, List·getD-append}
 use lib.Seq.{take-suc, getD-set-same, getD-set-other}
 use borrow.Author.Tests.{eq-eqb, ne-eqb}
+use Rattle.lent.specs.Over.{over}
 use Rattle.keys.specs.Sorting.{count}
 use Rattle.keys.specs.SortingTheorems.{eq-or-ne}
 use Rattle.bvh.specs.Once.{one-le}
@@ -34,6 +35,13 @@ pub record CountsOnce (items : List ℕ) (n : ℕ) (work₀ : List ℕ) (result 
 unfoldable pub allOnes : ℕ → List ℕ → Bool
 allOnes zero work = true
 allOnes (suc n) work = eqb (getD work n 0) 1 && allOnes n work
+
+-- cleared places hold 0
+pub cleared-zero : (n : ℕ) (work : List ℕ) → Zero n (over (replicate n 0) work)
+unfolding over
+cleared-zero n work k h =
+    let long : k < length {A = ℕ} (replicate n 0) = rw length-replicate h in
+    List·getD-append (replicate n 0) _ 0 k long ∙ getD-replicate n k 0 0 h
 
 -- all counts are 1 exactly when each number below n stands once
 pub allOnes-once : (n : ℕ) (items work : List ℕ) → ((k : ℕ) → k < n → getD work k 0 ≡ count k items) → allOnes n work ≡ onceBelow n items

@@ -10,7 +10,8 @@ use lib.ListN.{length}
 use borrow.Author.Tests.{eq-eqb, ne-eqb, lt-ltb, le-ltb}
 use Rattle.keys.specs.Sorting.{count}
 use Rattle.math.specs.declared.BoundingBox.{BoundingBox}
-use Rattle.mesh.specs.Accepted.{Accepted}
+use Rattle.mesh.specs.Accepted.{Accepted, length-fans}
+use Rattle.mesh.specs.Faces.{faces}
 use Rattle.mesh.specs.Triangles as Triangles
 use Rattle.bvh.specs.declared.check.Walked.{Walked}
 use Rattle.bvh.specs.declared.check.Walked.the-variants.{Fault, Ends}
@@ -95,6 +96,11 @@ pub record Lent (m : Mesh) (given : ℕ) (t : Tree) : Type 0 where
   pub boxes : length (t .boxes) ≡ 6 * nodeCount t
   pub nodes : length (t .nodes) ≡ 2 * nodeCount t
   pub items : (k : ℕ) → k < length (t .items) → itemAt t k < length (m .corners) - 2 * length (m .ends)
+
+-- the triangles of an accepted mesh: two a face fewer than corners
+pub triangleCount-accepted : (m : Mesh) → Accepted (m .coords) (m .corners) (m .ends) → triangleCount m + 2 * length (m .ends) ≡ length (m .corners)
+unfolding triangleCount Triangles.triangles faces
+triangleCount-accepted m a = omega (arith, length-fans 0 (m .corners) (m .ends) (a .lengths .fit) (a .wide))
 
 -- from place k on: the own box there is joined, and then the rest
 pub joinFrom-next : (m : Mesh) (t : Tree) (b : BoundingBox) (k end : ℕ) → k < end → joinFrom m t b k (end - k) ≡ joinFrom m t (join b (ownBox m (itemAt t k))) (k + 1) (end - (k + 1))

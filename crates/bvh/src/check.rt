@@ -1,17 +1,25 @@
-// The walk of the tree check over the nodes of a lent tree. The definitions are in specs/TreeTest.antt.
+// The tree check: document 01's questions 1 to 7. The definitions are in specs/Check.antt (the questions and
+// the promise) and specs/TreeTest.antt (the tree rules as a test).
 ghost use mathlib.Core.Path.{_≡_};
+ghost use mathlib.Core.Bool.{_&&_};
 ghost use Prim.Native.Nat.{_+_, _-_, _*_, _/_, _≤_, _<_};
+ghost use lib.Dec.{eqb};
 ghost use lib.ListN.{length};
 ghost use Rattle.mesh.specs.Accepted.{Accepted};
 ghost use Rattle.mesh.specs.Triangles as Triangles;
 ghost use Rattle.bvh.specs.Tree as Tree;
 ghost use Rattle.bvh.specs.Builder as Builder;
 ghost use Rattle.bvh.specs.TreeTest as TreeTest;
+ghost use Rattle.bvh.specs.Check as Check;
+use crate::items::items_once;
 use math::BoundingBox;
 use math::Vec3;
+use mesh::Asked;
+use refusal::Refusal;
+use refusal::Verdict;
 
 // What the walk over a subtree finds.
-pub enum Walked {
+enum Walked {
     // The tree does not keep the rules.
     Fault,
     // The node and the item place behind the subtree, and the join of the own boxes below it.
@@ -123,7 +131,7 @@ fn with_left(left: BoundingBox, walked: Walked) -> Walked
     }
 }
 
-// The walk at a leaf: it has at most four items, and they begin at place `i`.
+// The walk at a leaf: it has at most four items, they begin at place `i` and are in the list.
 fn check_leaf(
     coords: &[f64],
     corners: &[u32],
@@ -162,7 +170,7 @@ fn check_leaf(
 
 // The walk over the subtree of node `n`, whose items begin at place `i`, with at most `depth` nodes on a
 // path.
-pub fn check_node(
+fn check_node(
     coords: &[f64],
     corners: &[u32],
     ends: &[u32],
@@ -174,7 +182,7 @@ pub fn check_node(
     n: usize,
     i: usize,
 ) -> Walked
-    requires { ⌜ TreeTest.Lent (Tree.mesh (now coords) (now corners) (now ends)) sides (Tree.tree (now boxes) (now nodes) (now items)) ⌝ }
+    requires { ⌜ TreeTest.Lent (Tree.mesh (now coords) (now corners) (now ends)) sides (Tree.tree (now boxes) (now nodes) (now items)) × (depth ≤ 32) ⌝ }
     ensures { λ r. ⌜ r ≡ TreeTest.walk (Tree.mesh (now (coords .entry)) (now (corners .entry)) (now (ends .entry))) (Tree.tree (now (boxes .entry)) (now (nodes .entry)) (now (items .entry))) depth n i ⌝ }
 {
     if depth == 0 {
@@ -219,5 +227,119 @@ pub fn check_node(
             );
             boxed(node_box(boxes, n), with_left(joined, right))
         }
+    }
+}
+
+// Whether the list of boxes has six floats a node, and the list of node numbers two.
+fn lengths_fit(boxes: &[f64], nodes: &[u32]) -> bool
+    ensures { λ r. ⌜ r ≡ (eqb (length (now (boxes .entry))) (6 * (length (now (nodes .entry)) / 2)) && eqb (length (now (nodes .entry))) (2 * (length (now (nodes .entry)) / 2))) ⌝ }
+{
+    let n = nodes.len() / 2;
+    (boxes.len() == 6 * n) & (nodes.len() == 2 * n)
+}
+
+// Whether there are no nodes, if there are no triangles, or else the root's subtree has all nodes and all
+// item places.
+fn root_fits(
+    coords: &[f64],
+    corners: &[u32],
+    ends: &[u32],
+    boxes: &[f64],
+    nodes: &[u32],
+    items: &[u32],
+) -> bool
+    requires { ⌜ TreeTest.Lent (Tree.mesh (now coords) (now corners) (now ends)) (Triangles.sides (now ends)) (Tree.tree (now boxes) (now nodes) (now items)) ⌝ }
+    ensures { λ r. ⌜ r ≡ TreeTest.rootTest (Tree.mesh (now (coords .entry)) (now (corners .entry)) (now (ends .entry))) (Tree.tree (now (boxes .entry)) (now (nodes .entry)) (now (items .entry))) ⌝ }
+{
+    let triangles = corners.len() - 2 * ends.len();
+    let n = nodes.len() / 2;
+    if triangles == 0 {
+        return n == 0;
+    }
+    let sides = mesh::triangles::sides(ends);
+    let walked = check_node(coords, corners, ends, sides, boxes, nodes, items, 32, 0, 0);
+    match walked {
+        Walked::Fault => false,
+        Walked::Ends { node, item, joined } => (node == n) & (item == triangles),
+    }
+}
+
+// Whether the tree keeps the rules. Work places are used for counting the items.
+fn keeps_rules(
+    coords: &[f64],
+    corners: &[u32],
+    ends: &[u32],
+    boxes: &[f64],
+    nodes: &[u32],
+    items: &[u32],
+    work: &mut [u64],
+) -> bool
+    requires { ⌜ Accepted (now coords) (now corners) (now ends) × (length (now corners) ≤ length (now work)) ⌝ }
+    ensures { λ r. ⌜ Check.Keeps (Tree.mesh (now (coords .entry)) (now (corners .entry)) (now (ends .entry))) (Tree.tree (now (boxes .entry)) (now (nodes .entry)) (now (items .entry))) (now (work .entry)) r (now (work .exit)) ⌝ }
+{
+    if !lengths_fit(boxes, nodes) {
+        return false;
+    }
+    if !items_once(items, corners.len() - 2 * ends.len(), work) {
+        return false;
+    }
+    root_fits(coords, corners, ends, boxes, nodes, items)
+}
+
+// Questions 1 to 6: a mesh, and a work place for each corner.
+pub fn ask_room(coords: &[f64], corners: &[u32], ends: &[u32], work: usize) -> Verdict
+    ensures { λ r. ⌜ r ≡ Check.askRoom (Tree.mesh (now (coords .entry)) (now (corners .entry)) (now (ends .entry))) work ⌝ }
+{
+    let asked = mesh::questions::ask_mesh(coords, corners, ends);
+    match asked {
+        Asked::Refused(refusal) => Verdict::Refused(refusal),
+        Asked::Accepted(_) => {
+            if corners.len() <= work {
+                Verdict::Passed
+            } else {
+                Verdict::Refused(Refusal::Room)
+            }
+        }
+    }
+}
+
+// Question 7, of a mesh that passes 1 to 6. The work places that it needs hold 0 then.
+pub fn ask_tree(
+    coords: &[f64],
+    corners: &[u32],
+    ends: &[u32],
+    boxes: &[f64],
+    nodes: &[u32],
+    items: &[u32],
+    work: &mut [u64],
+) -> Verdict
+    requires { ⌜ Accepted (now coords) (now corners) (now ends) × (length (now corners) ≤ length (now work)) ⌝ }
+    ensures { λ r. ⌜ Check.AsksTree (Tree.mesh (now (coords .entry)) (now (corners .entry)) (now (ends .entry))) (Tree.tree (now (boxes .entry)) (now (nodes .entry)) (now (items .entry))) (now (work .entry)) r (now (work .exit)) ⌝ }
+{
+    let kept = keeps_rules(coords, corners, ends, boxes, nodes, items, work);
+    lent::clear(work, corners.len());
+    if kept {
+        Verdict::Passed
+    } else {
+        Verdict::Refused(Refusal::Tree)
+    }
+}
+
+// The tree check: questions 1 to 7.
+pub fn check_tree(
+    coords: &[f64],
+    corners: &[u32],
+    ends: &[u32],
+    boxes: &[f64],
+    nodes: &[u32],
+    items: &[u32],
+    work: &mut [u64],
+) -> Verdict
+    ensures { λ r. ⌜ Check.Checks (Tree.mesh (now (coords .entry)) (now (corners .entry)) (now (ends .entry))) (Tree.tree (now (boxes .entry)) (now (nodes .entry)) (now (items .entry))) (now (work .entry)) r (now (work .exit)) ⌝ }
+{
+    let asked = ask_room(coords, corners, ends, work.len());
+    match asked {
+        Verdict::Refused(refusal) => Verdict::Refused(refusal),
+        Verdict::Passed => ask_tree(coords, corners, ends, boxes, nodes, items, work),
     }
 }

@@ -34,3 +34,17 @@ fn all_ones(work: &[u64], n: usize) -> bool
     }
     true
 }
+
+// Whether there are `n` items and each number below `n` stands once among them. The first `n` work places
+// are used for counting; a list of another length is not counted.
+pub fn items_once(items: &[u32], n: usize, work: &mut [u64]) -> bool
+    requires { ⌜ n ≤ length (now work) ⌝ }
+    ensures { λ r. ⌜ Counting.CountsOnce (now (items .entry)) n (now (work .entry)) r (now (work .exit)) ⌝ }
+{
+    if items.len() != n {
+        return false;
+    }
+    lent::clear(work, n);
+    count_items(items, n, work);
+    all_ones(work, n)
+}

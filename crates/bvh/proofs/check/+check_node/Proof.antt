@@ -188,7 +188,7 @@ check-node-check-leaf-requires : (t : ℕ) → check-node-lts.Need-check-leaf-re
   boxed-reads.Learnt,
 ) (check-node-at t) check-node.Post
 unfolding countOf
-check-node-check-leaf-requires t c κs = (c .before .before .before .before .before .before .before .before .before .before .before .pre .1, c .before .before .before .if2 .left, c .if3 .taken)
+check-node-check-leaf-requires t c κs = (c .before .before .before .before .before .before .before .before .before .before .before .pre .1 .0, c .before .before .before .if2 .left, c .if3 .taken)
 
 check-node-returns-3 : (t : ℕ) → check-node-lts.Need-returns-3 (
   check-leaf-reads.Asked,
@@ -250,7 +250,7 @@ check-node-check-node-requires : (t : ℕ) → check-node-lts.Need-check-node-re
   boxed-reads.Asked,
   boxed-reads.Learnt,
 ) (check-node-at t) check-node.Post
-check-node-check-node-requires t c κs = (omega (arith, c .before .before .before .before .before .before .before .before .before .before .before .pre .0, pos-of-ne-zero (c .before .before .before .before .if1 .left)), c .before .before .before .before .before .before .before .before .before .before .before .pre .1)
+check-node-check-node-requires t c κs = (omega (arith, c .before .before .before .before .before .before .before .before .before .before .before .pre .0, pos-of-ne-zero (c .before .before .before .before .if1 .left)), (c .before .before .before .before .before .before .before .before .before .before .before .pre .1 .0, omega (arith, c .before .before .before .before .before .before .before .before .before .before .before .pre .1 .1)))
 
 check-node-enum-told : (t : ℕ) → check-node-lts.Need-enum-told (
   check-leaf-reads.Asked,
@@ -329,7 +329,7 @@ check-node-check-node-requires-2 : (t : ℕ) → check-node-lts.Need-check-node-
   boxed-reads.Asked,
   boxed-reads.Learnt,
 ) (check-node-at t) check-node.Post
-check-node-check-node-requires-2 t c κs = (omega (arith, c .before .before .before .before .before .before .before .before .before .before .before .before .before .before .before .before .pre .0, pos-of-ne-zero (c .before .before .before .before .before .before .before .before .before .if1 .left)), c .before .before .before .before .before .before .before .before .before .before .before .before .before .before .before .before .pre .1)
+check-node-check-node-requires-2 t c κs = (omega (arith, c .before .before .before .before .before .before .before .before .before .before .before .before .before .before .before .before .pre .0, pos-of-ne-zero (c .before .before .before .before .before .before .before .before .before .if1 .left)), (c .before .before .before .before .before .before .before .before .before .before .before .before .before .before .before .before .pre .1 .0, omega (arith, c .before .before .before .before .before .before .before .before .before .before .before .before .before .before .before .before .pre .1 .1)))
 
 check-node-node-box-requires : (t : ℕ) → check-node-lts.Need-node-box-requires (
   check-leaf-reads.Asked,
@@ -344,7 +344,7 @@ check-node-node-box-requires : (t : ℕ) → check-node-lts.Need-node-box-requir
   boxed-reads.Learnt,
 ) (check-node-at t) check-node.Post
 unfolding nodeCount
-check-node-node-box-requires t c κs = omega (arith, c .before .before .before .before .before .before .before .before .before .before .before .before .before .before .before .before .before .pre .1 .boxes, c .before .before .before .before .before .before .before .before .before .if2 .left)
+check-node-node-box-requires t c κs = omega (arith, c .before .before .before .before .before .before .before .before .before .before .before .before .before .before .before .before .before .pre .1 .0 .boxes, c .before .before .before .before .before .before .before .before .before .if2 .left)
 
 check-node-with-left-requires : (t : ℕ) → check-node-lts.Need-with-left-requires (
   check-leaf-reads.Asked,
