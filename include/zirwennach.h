@@ -77,6 +77,40 @@ uint64_t csx_from_triangles(const double *triangles, size_t triangles_length, do
                             size_t coords_length, uint32_t *corners, size_t corners_length,
                             uint32_t *ends, size_t ends_length, uint64_t *sizes, size_t sizes_length);
 
+/* A mesh is lent as three lists: x, y, z of each vertex (coords), vertex numbers, face after face
+   (corners), and for each face the place in corners at which it ends (ends). Its triangles are the fan of
+   each face from its first corner, numbered through all faces from 0.
+
+   A stored box tree of a mesh is lent as three lists: six numbers a node, min x, y, z and max x, y, z of
+   its box (boxes), two numbers a node, its start and its count (nodes), and triangle numbers (items). Its
+   rules:
+   - Node 0 is the root. There are no nodes exactly if there are no triangles.
+   - Count 0 marks an inner node: its left child is the next node, its right child is its start. Each
+     subtree fills consecutive nodes, left before right.
+   - A leaf has count 1 to 4; its start is the place of its first item. Leaves in node order cover all
+     item places from 0 on, without gap or overlap.
+   - Items name each triangle once.
+   - A node's box encloses the box of each triangle below it, compared as numbers.
+   - A path from the root to a leaf has at most 32 nodes.
+   - The lists have exactly the lengths that this needs. */
+
+/* Checks that a tree keeps these rules for a mesh. The buffers must not overlap. Returns 0 if it does, or:
+     1,000,000           coords is no multiple of 3 numbers, or has more than 65,536 vertices
+     2,000,000           there are more than 65,536 faces or 262,144 corners, the ends fall, or the last
+                         of them (0 if there is none) is not the number of corners
+     3,000,000 + face    this face, counted from 0, has fewer than three corners
+     4,000,000 + face    a corner of this face is no vertex; asked of each face right after 3
+     5,000,000 + vertex  a coordinate of this vertex, counted from 0, is infinite or NaN
+     6,000,000           work has fewer places than there are corners
+     7,000,000           the tree does not keep the rules
+   A call that is refused by 1 to 6 changes nothing. Any other leaves 0 in the first places of work, one
+   a corner, and what lies past them unchanged. */
+uint64_t csx_check_tree(const double *coords, size_t coords_length, const uint32_t *corners,
+                        size_t corners_length, const uint32_t *ends, size_t ends_length,
+                        const double *boxes, size_t boxes_length, const uint32_t *nodes,
+                        size_t nodes_length, const uint32_t *items, size_t items_length,
+                        uint64_t *work, size_t work_length);
+
 /* The square root of x, rounded to the nearest double: IEEE 754's. NaN of NaN and of every negative
    number, a zero of the same zero. */
 double csx_root(double x);

@@ -2,6 +2,7 @@
 // refusal is returned as its number × 1,000,000 plus its place.
 pub mod meshes;
 pub mod shapes;
+pub mod trees;
 
 ghost use mathlib.Core.Path.{_≡_};
 ghost use Rattle.float.specs.Root as Root;

@@ -1,0 +1,25 @@
+// The tree entries as C functions.
+ghost use Rattle.bvh.specs.Tree as Tree;
+ghost use Rattle.viewer.specs.Trees as Trees;
+use refusal::Verdict;
+
+// Whether a lent tree keeps the tree rules for a mesh. The work places that are needed, one a corner, hold 0
+// then.
+#[no_mangle]
+pub extern "C" fn csx_check_tree(
+    coords: &[f64],
+    corners: &[u32],
+    ends: &[u32],
+    boxes: &[f64],
+    nodes: &[u32],
+    items: &[u32],
+    work: &mut [u64],
+) -> u64
+    ensures { λ r. ⌜ Trees.Checks (Tree.mesh (now (coords .entry)) (now (corners .entry)) (now (ends .entry))) (Tree.tree (now (boxes .entry)) (now (nodes .entry)) (now (items .entry))) (now (work .entry)) r (now (work .exit)) ⌝ }
+{
+    let checked = bvh::check::check_tree(coords, corners, ends, boxes, nodes, items, work);
+    match checked {
+        Verdict::Refused(refusal) => refusal.code(),
+        Verdict::Passed => 0,
+    }
+}
