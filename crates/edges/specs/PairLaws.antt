@@ -3,7 +3,7 @@
 use Prim.Native.Nat.{ℕ, suc, _+_, _≤_, _<_}
 use native.Mathlib.Omega.{arith}
 use mathlib.Core.Bool.{Bool, true, false, _&&_}
-use mathlib.Core.Path.{_≡_, refl, _∙_}
+use mathlib.Core.Path.{_≡_, refl, ap, _∙_}
 use mathlib.Core.Logic.{_⊎_, inl, inr, ⊎-elim}
 use mathlib.Core.List.{List, [], _∷_}
 use lib.Dec.{eqb}
@@ -11,6 +11,7 @@ use lib.ListN.{length}
 use borrow.Author.Tests.{lt-ltb, eq-eqb, ne-eqb, eqb-true}
 use Rattle.keys.specs.Sorting.{insertBy, sortedBy, sorted, count, Permutation, All, AscendingBy, Ascending}
 use Rattle.keys.specs.SortingTheorems.{le-or-lt, eq-or-ne, insert-here, insert-past, all-map, count-cons, sorted-ascending, sorted-permutation}
+use Rattle.mesh.specs.Faces.{faces, facesFrom}
 use Rattle.edges.specs.Edges.{edgeKeys, twiceIn, closed}
 use Rattle.edges.specs.Pairs.{startsWith, inPairs, closedKeys}
 
@@ -105,3 +106,14 @@ closedKeys-closed [] = refl
 closedKeys-closed (face ∷ rest) =
     let keys = edgeKeys (face ∷ rest) in
     rw (lt-ltb 0 (suc (length rest)) (omega arith)) (inPairs-twice (sorted keys) (sorted-ascending keys) ∙ twiceIn-counts (sorted keys) keys (sorted keys) (sorted-permutation keys) ∙ twiceIn-sorted keys keys)
+
+length-facesFrom : (start : ℕ) (corners ends : List ℕ) → length (facesFrom start corners ends) ≡ length ends
+unfolding facesFrom
+length-facesFrom start corners [] = refl
+length-facesFrom start corners (end ∷ rest) = ap suc (length-facesFrom end corners rest)
+
+-- the same of a mesh: it has as many faces as ends
+pub closedKeys-mesh : (corners ends : List ℕ) → closedKeys (length ends) (sorted (edgeKeys (faces corners ends))) ≡ closed (faces corners ends)
+closedKeys-mesh corners ends =
+    let count : length (faces corners ends) ≡ length ends = unfold faces in length-facesFrom 0 corners ends in
+    rw count at (closedKeys-closed (faces corners ends))

@@ -173,6 +173,9 @@ length-fans start corners (end ∷ rest) fit wide =
     let here : length (fan face) ≡ end - start - 2 = length-fan face ∙ simp (length-take, length-drop) (omega arith) in
     omega (arith, length-append (fan face) (fans (facesFrom end corners rest)), here, wide .0, length-fans end corners rest (fits .1) (wide .1))
 
-pub length-triangles : (coords : List Float) (corners ends : List ℕ) → Accepted coords corners ends → length (triangles corners ends) ≡ length corners - 2 * length ends
+pub length-fanned : (corners ends : List ℕ) → Fanned corners ends → length (triangles corners ends) ≡ length corners - 2 * length ends
 unfolding triangles faces
-length-triangles coords corners ends a = omega (arith, length-fans 0 corners ends (a .lengths .fit) (a .wide))
+length-fanned corners ends f = omega (arith, length-fans 0 corners ends (f .fit) (f .wide))
+
+pub length-triangles : (coords : List Float) (corners ends : List ℕ) → Accepted coords corners ends → length (triangles corners ends) ≡ length corners - 2 * length ends
+length-triangles coords corners ends a = length-fanned corners ends (fanned a)
