@@ -1,14 +1,20 @@
 // The mesh layer's inner functions. Each asks questions 1 to 5 first and returns the refusal's code, so
-// that none has a requirement; a buffer that is too short is refusal 6. The functions that they call are
-// proved, so they promise nothing more than to be safe.
+// that none has a requirement; a buffer that is too short is refusal 6. The definitions are in
+// specs/Meshes.antt.
 ghost use mathlib.Core.Path.{_≡_};
 ghost use mathlib.Core.Bool.{true};
+ghost use mathlib.Core.List.{[], _∷_};
 ghost use Prim.Native.Nat.{_+_, _-_, _*_, _≤_, _<_};
 ghost use lib.ListN.{length};
-ghost use Rattle.mesh.specs.Questions.{endsFit};
+ghost use lib.Seq.{sets};
+ghost use Rattle.lent.specs.Over.{over};
+ghost use Rattle.mesh.specs.Questions.{endsFit, askMesh};
 ghost use Rattle.mesh.specs.Accepted.{Accepted, Fanned};
 ghost use Rattle.mesh.specs.Boxes.{Corners};
+ghost use Rattle.mesh.specs.Triangles as Triangles;
 ghost use Rattle.edges.specs.Below.{Below};
+ghost use Rattle.weld.specs.Welding.{numbers};
+ghost use Rattle.probes.specs.Meshes as Meshes;
 use math::BoundingBox;
 use math::Vec3;
 use mesh::Asked;
@@ -22,7 +28,9 @@ pub extern "C" fn probe_mesh(
     corners: &[u32],
     ends: &[u32],
     counts: &mut [u64],
-) -> u64 {
+) -> u64
+    ensures { λ r. ⌜ Meshes.Writes (askMesh (now (coords .entry)) (now (corners .entry)) (now (ends .entry))) 0 (Meshes.counts (now (coords .entry)) (now (corners .entry)) (now (ends .entry))) (now (counts .entry)) r (now (counts .exit)) ⌝ }
+{
     let asked = mesh::questions::ask_mesh(coords, corners, ends);
     match asked {
         Asked::Refused(refusal) => refusal.code(),
@@ -41,6 +49,7 @@ pub extern "C" fn probe_mesh(
 // Writes the vertex numbers of a triangle from place `i` on.
 fn put_triangle(t: Triangle, out: &mut [u32], i: usize)
     requires { ⌜ i + 2 < length (now out) ⌝ }
+    ensures { λ _. ⌜ now (out .exit) ≡ sets (now (out .entry)) i (t .a ∷ t .b ∷ t .c ∷ []) ⌝ }
 {
     out[i] = t.a;
     out[i + 1] = t.b;
@@ -52,6 +61,7 @@ fn put_triangles(corners: &[u32], ends: &[u32], triangles: usize, out: &mut [u32
     requires { ⌜ Fanned (now corners) (now ends) ⌝ }
     requires { ⌜ triangles ≡ length (now corners) - 2 * length (now ends) ⌝ }
     requires { ⌜ 3 * triangles ≤ length (now out) ⌝ }
+    ensures { λ _. ⌜ now (out .exit) ≡ sets (now (out .entry)) 0 (Meshes.triangles (now (corners .entry)) (now (ends .entry))) ⌝ }
 {
     let sides = mesh::triangles::sides(ends);
     let mut t = 0;
@@ -72,7 +82,9 @@ pub extern "C" fn probe_triangles(
     corners: &[u32],
     ends: &[u32],
     out: &mut [u32],
-) -> u64 {
+) -> u64
+    ensures { λ r. ⌜ Meshes.Writes (askMesh (now (coords .entry)) (now (corners .entry)) (now (ends .entry))) 0 (Meshes.triangles (now (corners .entry)) (now (ends .entry))) (now (out .entry)) r (now (out .exit)) ⌝ }
+{
     let asked = mesh::questions::ask_mesh(coords, corners, ends);
     match asked {
         Asked::Refused(refusal) => refusal.code(),
@@ -89,6 +101,7 @@ pub extern "C" fn probe_triangles(
 // Writes a vector from place `i` on.
 fn put_vector(v: Vec3, out: &mut [f64], i: usize)
     requires { ⌜ i + 2 < length (now out) ⌝ }
+    ensures { λ _. ⌜ now (out .exit) ≡ sets (now (out .entry)) i (numbers (v ∷ [])) ⌝ }
 {
     out[i] = v.x;
     out[i + 1] = v.y;
@@ -98,6 +111,7 @@ fn put_vector(v: Vec3, out: &mut [f64], i: usize)
 // Writes a box from place `i` on.
 fn put_box(b: BoundingBox, out: &mut [f64], i: usize)
     requires { ⌜ i + 5 < length (now out) ⌝ }
+    ensures { λ _. ⌜ now (out .exit) ≡ sets (now (out .entry)) i (Meshes.boxNumbers b) ⌝ }
 {
     put_vector(b.min, out, i);
     put_vector(b.max, out, i + 3);
@@ -107,6 +121,7 @@ fn put_box(b: BoundingBox, out: &mut [f64], i: usize)
 fn put_own_box(coords: &[f64], t: Triangle, out: &mut [f64], i: usize)
     requires { ⌜ Corners (now coords) t ⌝ }
     requires { ⌜ i + 8 < length (now out) ⌝ }
+    ensures { λ _. ⌜ now (out .exit) ≡ sets (now (out .entry)) i (Meshes.ownBox (now (coords .entry)) t) ⌝ }
 {
     put_box(mesh::boxes::triangle_box(coords, t), out, i);
     put_vector(mesh::boxes::triangle_center(coords, t), out, i + 6);
@@ -117,6 +132,7 @@ fn put_own_boxes(coords: &[f64], corners: &[u32], ends: &[u32], triangles: usize
     requires { ⌜ Accepted (now coords) (now corners) (now ends) ⌝ }
     requires { ⌜ triangles ≡ length (now corners) - 2 * length (now ends) ⌝ }
     requires { ⌜ 13 + 9 * triangles ≤ length (now out) ⌝ }
+    ensures { λ _. ⌜ now (out .exit) ≡ sets (now (out .entry)) 13 (Meshes.ownBoxes (now (coords .entry)) (Triangles.triangles (now (corners .entry)) (now (ends .entry)))) ⌝ }
 {
     let sides = mesh::triangles::sides(ends);
     let mut t = 0;
@@ -127,9 +143,10 @@ fn put_own_boxes(coords: &[f64], corners: &[u32], ends: &[u32], triangles: usize
     }
 }
 
-// Writes what a list is asked with, the grown box and the tolerance, from place `i` on.
+// Writes what `prepare` computes of a mesh, the grown box and the tolerance, from place `i` on.
 fn put_prepared(coords: &[f64], out: &mut [f64], i: usize)
     requires { ⌜ i + 6 < length (now out) ⌝ }
+    ensures { λ _. ⌜ now (out .exit) ≡ sets (now (out .entry)) i (Meshes.prepared (now (coords .entry))) ⌝ }
 {
     let prepared = mesh::boxes::prepare(coords);
     put_box(prepared.grown, out, i);
@@ -144,7 +161,9 @@ pub extern "C" fn probe_mesh_boxes(
     corners: &[u32],
     ends: &[u32],
     out: &mut [f64],
-) -> u64 {
+) -> u64
+    ensures { λ r. ⌜ Meshes.Writes (askMesh (now (coords .entry)) (now (corners .entry)) (now (ends .entry))) 0 (Meshes.boxes (now (coords .entry)) (now (corners .entry)) (now (ends .entry))) (now (out .entry)) r (now (out .exit)) ⌝ }
+{
     let asked = mesh::questions::ask_mesh(coords, corners, ends);
     match asked {
         Asked::Refused(refusal) => refusal.code(),
@@ -165,6 +184,7 @@ fn keys_closed(corners: &[u32], ends: &[u32], work: &mut [u64]) -> u64
     requires { ⌜ endsFit 0 (length (now corners)) (now ends) ≡ true ⌝ }
     requires { ⌜ Below 65536 (now corners) ⌝ }
     requires { ⌜ length (now corners) ≤ length (now work) ⌝ }
+    ensures { λ r. ⌜ (r ≡ Meshes.closed (now (corners .entry)) (now (ends .entry))) × (now (work .exit) ≡ over (Meshes.keys (now (corners .entry)) (now (ends .entry))) (now (work .entry))) ⌝ }
 {
     let n = corners.len();
     edges::edge_keys(corners, ends, work);
@@ -182,7 +202,9 @@ pub extern "C" fn probe_edge_keys(
     corners: &[u32],
     ends: &[u32],
     work: &mut [u64],
-) -> u64 {
+) -> u64
+    ensures { λ r. ⌜ Meshes.Writes (askMesh (now (coords .entry)) (now (corners .entry)) (now (ends .entry))) (Meshes.closed (now (corners .entry)) (now (ends .entry))) (Meshes.keys (now (corners .entry)) (now (ends .entry))) (now (work .entry)) r (now (work .exit)) ⌝ }
+{
     let asked = mesh::questions::ask_mesh(coords, corners, ends);
     match asked {
         Asked::Refused(refusal) => refusal.code(),
@@ -204,7 +226,9 @@ pub extern "C" fn probe_prepare(
     ends: &[u32],
     work: &mut [u64],
     out: &mut [f64],
-) -> u64 {
+) -> u64
+    ensures { λ r. ⌜ Meshes.WritesTwo (askMesh (now (coords .entry)) (now (corners .entry)) (now (ends .entry))) (Meshes.closed (now (corners .entry)) (now (ends .entry))) (Meshes.keys (now (corners .entry)) (now (ends .entry))) (now (work .entry)) (Meshes.prepared (now (coords .entry))) (now (out .entry)) r (now (work .exit)) (now (out .exit)) ⌝ }
+{
     let asked = mesh::questions::ask_mesh(coords, corners, ends);
     match asked {
         Asked::Refused(refusal) => refusal.code(),

@@ -1,7 +1,10 @@
--- `keys_closed` is safe: what `edge_keys` requires is required here too, and it leaves the length of the list.
+-- `keys_closed` meets its contract: `edge_keys` writes the keys at the front, one a corner, and `is_closed` tells by them whether the mesh is closed (`closed-of`).
 use native.Mathlib.Omega.{arith}
-use mathlib.Core.Path.{sym}
+use mathlib.Core.Path.{sym, _∙_}
+use mathlib.Core.Bool.{true, false}
 use lib.Seq.{length-take-le}
+use Rattle.probes.specs.Meshes.{keys}
+use Rattle.probes.proofs.Keys.{closed-of}
 use borrow.Author.Needs.{needs}
 use Rattle.probes.proofs.meshes.keys_closed.Statement.{statement}
 use Rattle.probes.proofs.meshes.keys_closed.Tie as tie
@@ -22,13 +25,21 @@ same-length : tie.Need-same-length
 same-length c = search needs
 
 returns : tie.Need-returns
-returns c = search needs
+unfolding keys
+returns c =
+    let start = c .before .before .before .before .before .before .before .before .before .before in
+    let written = c .before .before .before .before .before .edge-keys .ensures in
+    (closed-of (start .args .corners .now) (start .args .ends .now) (start .pre .0) _ _ true written (sym (c .if1 .taken) ∙ c .before .is-closed .ensures), written)
 
 same-length-2 : tie.Need-same-length-2
 same-length-2 c = search needs
 
 returns-2 : tie.Need-returns-2
-returns-2 c = search needs
+unfolding keys
+returns-2 c =
+    let start = c .before .before .before .before .before .before .before .before .before .before in
+    let written = c .before .before .before .before .before .edge-keys .ensures in
+    (closed-of (start .args .corners .now) (start .args .ends .now) (start .pre .0) _ _ false written (sym (c .if1 .left) ∙ c .before .is-closed .ensures), written)
 
 pub keys-closed-spec : {M : Type 1} → statement M
 keys-closed-spec =

@@ -1,6 +1,12 @@
--- `probe_mesh` is safe: the stores keep the length of the list.
+-- `probe_mesh` meets its contract: a refusal comes before the first store, and the three stores are the counts at the front.
 use native.Mathlib.Omega.{arith}
 use lib.ListN.{length-set}
+use mathlib.Core.Path.{sym, _∙_}
+use Rattle.mesh.specs.Questions as Questions
+use Rattle.mesh.specs.Accepted.{asked, asked-passed, asked-refused}
+use Rattle.probes.specs.Meshes.{counts}
+use Rattle.probes.proofs.Stores.{sets-front}
+use Rattle.probes.proofs.Verdicts.{mesh-refused, room-refused, passed}
 use borrow.Author.Needs.{needs}
 use Rattle.probes.proofs.meshes.probe_mesh.Statement.{statement}
 use Rattle.probes.proofs.meshes.probe_mesh.Tie as tie
@@ -21,7 +27,11 @@ code-requires-2 : tie.Need-code-requires-2
 code-requires-2 c κs = search needs
 
 returns : tie.Need-returns
-returns c = search needs
+unfolding counts
+returns c =
+    let a = c .before .before .before .before .before .before .before .before .before .before .args in
+    let passed = asked-passed (a .coords .now) (a .corners .now) (a .ends .now) _ (sym (c .before .before .before .before .before .ask-mesh .ensures) ∙ c .before .before .before .asked2 .given .1) in
+    rw (c .code2 .ensures) (room-refused _ 0 (counts (a .coords .now) (a .corners .now) (a .ends .now)) (a .counts .now) passed (c .before .if1 .taken))
 
 slice-write-counts : tie.Need-slice-write-counts
 slice-write-counts c = search needs
@@ -33,13 +43,22 @@ slice-write-counts-3 : tie.Need-slice-write-counts-3
 slice-write-counts-3 c = search needs
 
 returns-2 : tie.Need-returns-2
-returns-2 c = search needs
+returns-2 c =
+    let a = c .before .before .before .before .before .before .before .before .before .args in
+    let refused = asked-refused (a .coords .now) (a .corners .now) (a .ends .now) _ (sym (c .before .before .before .before .ask-mesh .ensures) ∙ c .before .before .asked .given .1) in
+    rw (c .code .ensures) (mesh-refused _ _ _ _ _ refused)
 
 same-length : tie.Need-same-length
 same-length c = search needs
 
 returns-3 : tie.Need-returns-3
-returns-3 c = search needs
+unfolding counts Questions.counts
+returns-3 c =
+    let a = c .before .before .before .before .before .before .before .before .before .args in
+    let answer = sym (c .before .before .before .before .ask-mesh .ensures) ∙ c .before .before .asked2 .given .1 in
+    let found = asked (a .coords .now) (a .corners .now) (a .ends .now) _ answer .1 in
+    let list = counts (a .coords .now) (a .corners .now) (a .ends .now) in
+    passed _ 0 list (a .counts .now) _ (asked-passed (a .coords .now) (a .corners .now) (a .ends .now) _ answer) (c .if1 .left) (rw found (sets-front list (a .counts .now) (c .if1 .left)))
 
 pub probe-mesh-spec : {M : Type 1} → statement M
 probe-mesh-spec =

@@ -1,6 +1,8 @@
--- `put_vector` is safe: the stores keep the length of the list.
+-- `put_vector` meets its contract: the stores keep the length of the list, and three stores one after another are `sets`.
 use native.Mathlib.Omega.{arith}
 use lib.ListN.{length-set}
+use Rattle.weld.specs.Welding.{numbers}
+use Rattle.probes.proofs.Stores.{sets-three}
 use borrow.Author.Needs.{needs}
 use Rattle.probes.proofs.meshes.put_vector.Statement.{statement}
 use Rattle.probes.proofs.meshes.put_vector.Tie as tie
@@ -33,7 +35,8 @@ same-length : tie.Need-same-length
 same-length c = search needs
 
 returns : tie.Need-returns
-returns c = search needs
+unfolding numbers
+returns c = sets-three (c .args .out .now) (c .args .i) _ _ _
 
 pub put-vector-spec : {M : Type 1} → statement M
 put-vector-spec =

@@ -1,0 +1,4 @@
+-- What the proofs of crate `probes` share.
+mod Keys
+mod Stores
+mod Verdicts

@@ -1,0 +1,2 @@
+-- The definitions of crate `probes`.
+pub mod Meshes
