@@ -84,12 +84,12 @@ nodeBox m (t ∷ rest) = joinAll m (ownBox m t) rest
 -- ---- the tree
 
 -- a built tree: a leaf has a box and its items, an inner node a box and two subtrees
-pub data Built : Type 0 where
-  leafNode : BoundingBox → List ℕ → Built
-  innerNode : BoundingBox → Built → Built → Built
+pub data BoxTree : Type 0 where
+  leafNode : BoundingBox → List ℕ → BoxTree
+  innerNode : BoundingBox → BoxTree → BoxTree → BoxTree
 
 -- at most four items make a leaf, more are split, with `fuel` splits below one another at most
-unfoldable pub build : Mesh → ℕ → List ℕ → Built
+unfoldable pub build : Mesh → ℕ → List ℕ → BoxTree
 build m zero items = leafNode (nodeBox m items) items
 build m (suc fuel) items =
     cond
@@ -98,7 +98,7 @@ build m (suc fuel) items =
     (innerNode (nodeBox m items) (build m fuel (leftItems m items)) (build m fuel (rightItems m items)))
 
 -- the tree over ascending items; as many splits as items are enough
-unfoldable pub treeOver : Mesh → List ℕ → Built
+unfoldable pub treeOver : Mesh → List ℕ → BoxTree
 treeOver m items = build m (length items) items
 
 -- n numbers from `first` on
@@ -107,7 +107,7 @@ numbers first zero = []
 numbers first (suc n) = first ∷ numbers (first + 1) n
 
 -- the tree over all triangles
-unfoldable pub builderTree : Mesh → Built
+unfoldable pub builderTree : Mesh → BoxTree
 builderTree m = treeOver m (numbers 0 (triangleCount m))
 
 -- ---- the lent lists
@@ -117,30 +117,30 @@ abbrev pub edges : BoundingBox → List Float
 edges b = b .min .x ∷ b .min .y ∷ b .min .z ∷ b .max .x ∷ b .max .y ∷ b .max .z ∷ []
 
 -- how many nodes a tree has
-unfoldable pub size : Built → ℕ
+unfoldable pub size : BoxTree → ℕ
 size (leafNode b items) = 1
 size (innerNode b left right) = 1 + size left + size right
 
 -- the boxes: each node before its subtrees, left before right
-unfoldable pub boxList : Built → List Float
+unfoldable pub boxList : BoxTree → List Float
 boxList (leafNode b items) = edges b
 boxList (innerNode b left right) = edges b ++ (boxList left ++ boxList right)
 
 -- the items, leaf after leaf
-unfoldable pub itemList : Built → List ℕ
+unfoldable pub itemList : BoxTree → List ℕ
 itemList (leafNode b items) = items
 itemList (innerNode b left right) = itemList left ++ itemList right
 
 -- start and count of each node, of a tree whose root is node n and whose items begin at place i: a leaf's start is its first item place,
 -- an inner node's start is its right child and its count is 0
-unfoldable pub nodeList : ℕ → ℕ → Built → List ℕ
+unfoldable pub nodeList : ℕ → ℕ → BoxTree → List ℕ
 nodeList n i (leafNode b items) = i ∷ length items ∷ []
 nodeList n i (innerNode b left right) =
     let r = n + 1 + size left in
     r ∷ 0 ∷ (nodeList (n + 1) i left ++ nodeList r (i + length (itemList left)) right)
 
 -- the lent lists of a built tree
-unfoldable pub lists : Built → Tree
+unfoldable pub lists : BoxTree → Tree
 lists b = record { boxes = boxList b; nodes = nodeList 0 0 b; items = itemList b }
 
 -- the lent lists that the builder makes of a mesh; there are no nodes exactly when there are no triangles

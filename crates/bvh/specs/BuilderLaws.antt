@@ -15,7 +15,7 @@ use Rattle.keys.specs.Permutations.{all-append}
 use Rattle.math.specs.declared.BoundingBox.{BoundingBox}
 use Rattle.mesh.specs.Walks.{both}
 use Rattle.bvh.specs.Tree.{Mesh, ownBox, encloses}
-use Rattle.bvh.specs.Builder.{byCenter, leftItems, rightItems, join, joinAll, nodeBox, Built, leafNode, innerNode, build, treeOver, numbers, size, boxList, itemList, nodeList}
+use Rattle.bvh.specs.Builder.{byCenter, leftItems, rightItems, join, joinAll, nodeBox, BoxTree, leafNode, innerNode, build, treeOver, numbers, size, boxList, itemList, nodeList}
 use Rattle.bvh.specs.JoinLaws.{NumberBox, encloses-join, encloses-self, join-numbers, ownBox-numbers}
 
 -- ---- the halves
@@ -167,12 +167,12 @@ nodeBox-holds m (t ∷ rest) =
 
 -- ---- the lengths of the lists
 
-pub length-boxList : (b : Built) → length (boxList b) ≡ 6 * size b
+pub length-boxList : (b : BoxTree) → length (boxList b) ≡ 6 * size b
 unfolding boxList size
 length-boxList (leafNode b items) = refl
 length-boxList (innerNode b left right) = omega (arith, length-append (boxList left) (boxList right), length-boxList left, length-boxList right)
 
-pub length-nodeList : (n i : ℕ) (b : Built) → length (nodeList n i b) ≡ 2 * size b
+pub length-nodeList : (n i : ℕ) (b : BoxTree) → length (nodeList n i b) ≡ 2 * size b
 unfolding nodeList size
 length-nodeList n i (leafNode b items) = refl
 length-nodeList n i (innerNode b left right) =

@@ -19,15 +19,15 @@ use Rattle.math.specs.Vectors.{at}
 use Rattle.mesh.specs.Accepted.{Accepted, length-triangles}
 use Rattle.bvh.specs.Tree.{Mesh, Tree, triangleCount, ownBox, nodeCount, boxAt, boxOf, startOf, countOf, itemAt, encloses}
 use Rattle.bvh.specs.TreeRules.{Around, Subtree, leaf, inner, TreeRules}
-use Rattle.bvh.specs.Builder.{leftItems, rightItems, nodeBox, Built, leafNode, innerNode, treeOver, numbers, builderTree, edges, size, boxList, itemList, nodeList, lists, layout}
+use Rattle.bvh.specs.Builder.{leftItems, rightItems, nodeBox, BoxTree, leafNode, innerNode, treeOver, numbers, builderTree, edges, size, boxList, itemList, nodeList, lists, layout}
 use Rattle.bvh.specs.BuilderLaws.{length-left, length-right, count-treeOver, length-treeOver, all-treeOver, treeOver-leaf, treeOver-inner, Holds, nodeBox-holds, length-boxList, length-nodeList, length-numbers}
 
 -- ---- built trees are sound
 
 -- leaves have one to four items, paths have at most `depth` nodes, and each node's box encloses each own box below it
-data Sound (m : Mesh) : ℕ → Built → Type 0 where
+data Sound (m : Mesh) : ℕ → BoxTree → Type 0 where
   soundLeaf : {depth : ℕ} {b : BoundingBox} {items : List ℕ} → 1 ≤ length items → length items ≤ 4 → Holds m b items → Sound m (suc depth) (leafNode b items)
-  soundInner : {depth : ℕ} {b : BoundingBox} {left right : Built} → Sound m depth left → Sound m depth right → Holds m b (itemList left ++ itemList right) → Sound m (suc depth) (innerNode b left right)
+  soundInner : {depth : ℕ} {b : BoundingBox} {left right : BoxTree} → Sound m depth left → Sound m depth right → Holds m b (itemList left ++ itemList right) → Sound m (suc depth) (innerNode b left right)
 
 -- at most four items
 leaf-sound : (m : Mesh) (depth : ℕ) (items : List ℕ) → 1 ≤ length items → length items ≤ 4 → Sound m (suc depth) (treeOver m items)
@@ -64,7 +64,7 @@ from : {A : Type 0} (k j place : ℕ) (l part : List A) (d : A) → drop k l ≡
 from k j place l part d e h = rw h at (sym (getD-drop k l j d)) ∙ ap (λ x. getD x j d) e
 
 -- the lists of tree b stand in those of t from node n and item place i on
-record Stands (t : Tree) (n i : ℕ) (b : Built) : Type 0 where
+record Stands (t : Tree) (n i : ℕ) (b : BoxTree) : Type 0 where
   moreBoxes : List Float
   moreNodes : List ℕ
   moreItems : List ℕ
@@ -95,7 +95,7 @@ module _ (m : Mesh) (t : Tree) where
       rw (same, item) (all-at (λ t. encloses b (ownBox m t) ≡ true) items (k - i) holds (omega arith))
 
   -- the subtrees stand behind their node, left before right
-  left-stands : (n i : ℕ) (b : BoundingBox) (left right : Built) → Stands t n i (innerNode b left right) → Stands t (n + 1) i left
+  left-stands : (n i : ℕ) (b : BoundingBox) (left right : BoxTree) → Stands t n i (innerNode b left right) → Stands t (n + 1) i left
   unfolding boxList nodeList itemList
   left-stands n i b left right s =
       let r = n + 1 + size left in
@@ -110,7 +110,7 @@ module _ (m : Mesh) (t : Tree) where
         items = s .items ∙ append-assoc (itemList left) (itemList right) (s .moreItems);
       }
 
-  right-stands : (n i : ℕ) (b : BoundingBox) (left right : Built) → Stands t n i (innerNode b left right) → Stands t (n + 1 + size left) (i + length (itemList left)) right
+  right-stands : (n i : ℕ) (b : BoundingBox) (left right : BoxTree) → Stands t n i (innerNode b left right) → Stands t (n + 1 + size left) (i + length (itemList left)) right
   unfolding boxList nodeList itemList left-stands
   right-stands n i b left right s =
       let l = left-stands n i b left right s in
@@ -126,7 +126,7 @@ module _ (m : Mesh) (t : Tree) where
       }
 
   -- where a sound tree stands, there is a subtree
-  subtree : {depth : ℕ} {b : Built} → Sound m depth b → (n i : ℕ) → Stands t n i b → Subtree m t depth n i (n + size b) (i + length (itemList b))
+  subtree : {depth : ℕ} {b : BoxTree} → Sound m depth b → (n i : ℕ) → Stands t n i b → Subtree m t depth n i (n + size b) (i + length (itemList b))
   unfolding size boxList nodeList itemList
   subtree (soundLeaf {b = b} {items = items} some few holds) n i s =
       let node = node-there n i (length items) (s .moreNodes) (s .nodes) in
@@ -143,7 +143,7 @@ module _ (m : Mesh) (t : Tree) where
       inner (node .1) leftTree rightTree (around-there n i b items (s .moreItems) (box-there n b _ (s .boxes)) (s .items) holds)
 
 -- a tree stands in its own lists
-root-stands : (b : Built) → Stands (lists b) 0 0 b
+root-stands : (b : BoxTree) → Stands (lists b) 0 0 b
 unfolding lists
 root-stands b =
     record {
@@ -174,7 +174,7 @@ numbers-once first (suc n) k low high =
     (le-or-lt k first)
 
 -- a sound tree over all triangles keeps the rules
-sound-rules : (m : Mesh) (b : Built) → Sound m 32 b → 0 < triangleCount m → length (itemList b) ≡ triangleCount m → ((k : ℕ) → k < triangleCount m → count k (itemList b) ≡ 1) → TreeRules m (lists b)
+sound-rules : (m : Mesh) (b : BoxTree) → Sound m 32 b → 0 < triangleCount m → length (itemList b) ≡ triangleCount m → ((k : ℕ) → k < triangleCount m → count k (itemList b) ≡ 1) → TreeRules m (lists b)
 unfolding lists nodeCount
 sound-rules m b sound some long once =
     let boxes = length-boxList b in

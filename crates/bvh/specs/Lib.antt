@@ -15,3 +15,4 @@ pub mod Node
 pub mod Median
 pub mod MedianLaws
 pub mod MedianTheorem
+pub mod Leaf

@@ -2,4 +2,5 @@
 // The definitions are in specs/.
 pub mod check;
 pub mod items;
+pub mod leaf;
 pub mod median;
