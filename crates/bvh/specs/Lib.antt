@@ -12,6 +12,10 @@ pub mod BuilderLaws
 pub mod BuilderTheorem
 pub mod BuilderSize
 pub mod Node
+pub mod Extent
+pub mod ExtentZeros
+pub mod ExtentFolds
+pub mod ExtentLaws
 pub mod Median
 pub mod MedianLaws
 pub mod MedianTheorem

@@ -64,7 +64,7 @@ fn node_box(boxes: &[f64], n: usize) -> BoundingBox
 }
 
 // The own box of triangle `t`.
-fn own_box(coords: &[f64], corners: &[u32], ends: &[u32], sides: usize, t: u32) -> BoundingBox
+pub fn own_box(coords: &[f64], corners: &[u32], ends: &[u32], sides: usize, t: u32) -> BoundingBox
     requires { ⌜ Accepted (now coords) (now corners) (now ends) × (sides ≡ Triangles.sides (now ends)) × (t < length (now corners) - 2 * length (now ends)) ⌝ }
     ensures { λ r. ⌜ r ≡ Tree.ownBox (Tree.mesh (now (coords .entry)) (now (corners .entry)) (now (ends .entry))) t ⌝ }
 {

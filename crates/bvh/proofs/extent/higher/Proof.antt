@@ -1,0 +1,25 @@
+-- `higher` meets its contract: its cases are those of the definition.
+use borrow.Author.Needs.{needs}
+use mathlib.Core.Path.{_≡_}
+use mathlib.Core.Bool.{true, false}
+use Rattle.float.specs.Rules as Rules
+use Rattle.bvh.specs.Extent.{higher}
+use Rattle.bvh.proofs.extent.higher.Statement.{statement}
+use Rattle.bvh.proofs.extent.higher.Tie as tie
+
+is-finite-requires : tie.Need-is-finite-requires
+is-finite-requires c κs = search needs
+
+max-requires : tie.Need-max-requires
+max-requires c κs = search needs
+
+returns : tie.Need-returns
+unfolding higher
+returns c = rw (← c .before .before .is-finite .ensures, c .before .if1 .taken) (c .max .ensures)
+
+returns-2 : tie.Need-returns-2
+unfolding higher
+returns-2 c = rw (← c .before .is-finite .ensures, c .if1 .left)
+
+pub higher-spec : {M : Type 1} → statement M
+higher-spec = tie.close (tie.spec is-finite-requires max-requires returns returns-2)
