@@ -1,24 +1,22 @@
--- The least of floats, or the greatest, in the order of a list. In another order it is the same but for the sign of a zero; and if it is
--- zero, it is the first zero of the list.
+-- The least of floats, or the greatest, in the order of a list. In another order it is the same but for the sign of a zero; and where it is
+-- zero, it is the first zero of the list. So from a list in any order the least of the sorted list can be told: `least-settled`.
 use Prim.Native.Nat.{ℕ}
-use mathlib.Core.Path.{_≡_, refl, sym, _∙_}
+use mathlib.Core.Path.{_≡_, refl}
 use mathlib.Core.Logic.{_⊎_, inl, inr, ⊎-elim}
 use mathlib.Core.Bool.{Bool, true, false, not, cond, _||_}
 use mathlib.Core.List.{List, [], _∷_}
 use lib.Dec.{T, T-not}
-use lib.Ieee.{Float, binary64, fits, ofBits, lt, le, eq, ne}
-use lib.Ieee.Bits.{is-true, is-false}
+use lib.Ieee.{Float, inf, binary64, isNan, ofBits, le, eq, ne}
+use lib.Ieee.Bits.{is-true}
+use lib.Ieee.Fits.{inf-fits}
 use Rattle.float.specs.Arithmetic.{zero}
 use Rattle.float.specs.Rules as Rules
 use Rattle.float.specs.Order.{Number, isZero, Alike, le-refl, le-trans, le-antisym, eq-le, eq-sym, lt-le, lt-not-le, alike-eq, eq-alike}
-use Rattle.keys.specs.Sorting.{All}
+use Rattle.keys.specs.Sorting.{insertBy, sortedBy, sorted, All}
+use Rattle.keys.specs.SortingTheorems.{le-or-lt, insert-here, insert-past, all-sortedBy}
 use Rattle.mesh.specs.PermutedBoxes.{F64}
 use Rattle.bvh.specs.Extent.{firstZero}
-
--- two cases, by a test's outcome
-pub by-test : (b : Bool) {A : Type 0} → (b ≡ true → A) → (b ≡ false → A) → A
-by-test true f g = f refl
-by-test false f g = g refl
+use Rattle.bvh.specs.ExtentZeros.{by-test}
 
 -- ---- the order, taken either way
 
@@ -42,17 +40,13 @@ before-antisym : (upper : Bool) (x y : Float) → T (before upper x y) → T (be
 before-antisym false x y h k = le-antisym x y h k
 before-antisym true x y h k = le-antisym x y k h
 
--- of two numbers one comes first
+-- of two numbers one comes before the other
 before-turn : (upper : Bool) (x y : Float) → Number x → Number y → T (not (before upper x y)) → T (before upper y x)
 before-turn false x y p q h = lt-le y x (rw (lt-not-le y x q p) h)
 before-turn true x y p q h = lt-le x y (rw (lt-not-le x y p q) h)
 
 zeros-le : (x y : Float) → T (eq x zero) → T (eq y zero) → T (le x y)
 zeros-le x y h k = le-trans x zero y (eq-le x zero h) (eq-le zero y (eq-sym y zero k))
-
--- what equals a zero is zero
-pub eq-zero : (x y : Float) → T (eq x y) → T (eq y zero) → T (eq x zero)
-eq-zero x y h k = le-antisym x zero (le-trans x y zero (eq-le x y h) (eq-le y zero k)) (le-trans zero y x (eq-le zero y (eq-sym y zero k)) (eq-le y x (eq-sym x y h)))
 
 -- zeros come before one another
 before-zeros : (upper : Bool) (x y : Float) → T (eq x zero) → T (eq y zero) → T (before upper x y)
@@ -67,13 +61,57 @@ flip : (t : Bool) (a b : Float) → cond (not t || false) b a ≡ cond t a b
 flip true a b = refl
 flip false a b = refl
 
--- of two numbers the one that comes first, and the left one of equals
+-- of two numbers the one that comes before the other, and the left one of equals
 pick-is : (upper : Bool) (a b : Float) → Number a → Number b → pick upper a b ≡ cond (before upper a b) a b
 unfolding pick Rules.min Rules.max
 pick-is false a b p q = rw (self a p, lt-not-le b a q p) (flip (le a b) a b)
 pick-is true a b p q = rw (self a p, lt-not-le a b p q) (flip (le b a) a b)
 
+-- ---- zeros
+
+-- what equals a zero is zero
+eq-zero : (x y : Float) → T (eq x y) → T (eq y zero) → T (eq x zero)
+eq-zero x y h k = le-antisym x zero (le-trans x y zero (eq-le x y h) (eq-le y zero k)) (le-trans zero y x (eq-le zero y (eq-sym y zero k)) (eq-le y x (eq-sym x y h)))
+
+zero-eq : (x : Float) → Number x → T (isZero x) → T (eq x zero)
+zero-eq x p z = alike-eq p (inr (z, unfold ofBits in tt))
+
+-- what differs in the sign of a zero at most is the same where it is not zero
+not-zero : {x y : Float} → Number y → eq y zero ≡ false → Alike x y → x ≡ y
+not-zero p n (inl e) = e
+not-zero {x} {y} p n (inr z) = absurd (rw n at (zero-eq y p (z .1)))
+
+infinity-f64 : (s : Bool) → F64 (inf s)
+unfolding isNan
+infinity-f64 s = record { number = tt; fit = inf-fits binary64 s }
+
+infinity-not-zero : (s : Bool) → T (not (eq (inf s) zero))
+unfolding eq ofBits
+infinity-not-zero s = tt
+
+-- ---- sorting keeps the items
+
+insert-back : (P : ℕ → Type 0) (t : ℕ) (l : List ℕ) → All P (insertBy (λ x. x) t l) → P t × All P l
+unfolding All insertBy
+insert-back P t [] a = (a .0, tt)
+insert-back P t (s ∷ rest) a =
+    ⊎-elim
+    (λ k. let b = rw (insert-here (λ x. x) t s rest k) at a in (b .0, b .1))
+    (λ k. let b = rw (insert-past (λ x. x) t s rest k) at a in let more = insert-back P t rest (b .1) in (more .0, (b .0, more .1)))
+    (le-or-lt t s)
+
+-- what holds of every sorted item holds of every item
+all-unsorted : (P : ℕ → Type 0) (l : List ℕ) → All P (sorted l) → All P l
+unfolding All sortedBy
+all-unsorted P [] a = tt
+all-unsorted P (t ∷ rest) a = let b = insert-back P t (sorted rest) a in (b .0, all-unsorted P rest (b .1))
+
 -- ---- over a list
+
+-- the floats e of the items that count are numbers of the format f64, and a zero counts
+pub record Floats (counts : ℕ → Bool) (e : ℕ → Float) : Type 0 where
+  pub f64 : (t : ℕ) → T (counts t) → F64 (e t)
+  pub zeros : (t : ℕ) → T (eq (e t) zero) → T (counts t)
 
 module _ (upper : Bool) (counts : ℕ → Bool) (e : ℕ → Float) where
   -- v, and the float of one item more, if it counts
@@ -85,30 +123,49 @@ module _ (upper : Bool) (counts : ℕ → Bool) (e : ℕ → Float) where
   picked v [] = v
   picked v (t ∷ rest) = picked (next v t) rest
 
-  -- the floats that count are numbers of the format f64, and a zero counts
-  module _ (f64 : (t : ℕ) → T (counts t) → F64 (e t)) (zeros : (t : ℕ) → T (eq (e t) zero) → T (counts t)) where
-    -- the one item more changes nothing, or it counts and comes before v
-    next-cases : (v : Float) (t : ℕ) → F64 v → ((next v t ≡ v) × (T (counts t) → T (before upper v (e t)))) ⊎ ((next v t ≡ e t) × T (counts t) × T (not (before upper v (e t))))
-    unfolding next
-    next-cases v t p = go (counts t) refl (f64 t)
-      where
-        chosen : (b : Bool) → before upper v (e t) ≡ b → counts t ≡ true → F64 (e t) → ((cond b v (e t) ≡ v) × (T (counts t) → T (before upper v (e t)))) ⊎ ((cond b v (e t) ≡ e t) × T (counts t) × T (not (before upper v (e t))))
-        chosen true h k q = inl (refl, λ c. rw h tt)
-        chosen false h k q = inr (refl, rw k tt, rw h tt)
+  -- the least, or the greatest, of the floats of a list's items
+  abbrev pub least : List ℕ → Float
+  least l = picked (inf upper) l
 
-        go : (b : Bool) → counts t ≡ b → (T b → F64 (e t)) → ((cond b (pick upper v (e t)) v ≡ v) × (T (counts t) → T (before upper v (e t)))) ⊎ ((cond b (pick upper v (e t)) v ≡ e t) × T (counts t) × T (not (before upper v (e t))))
-        go false k f = inl (refl, λ c. absurd (rw k at c))
-        go true k f = rw (pick-is upper v (e t) (p .number) (f tt .number)) (chosen (before upper v (e t)) refl k (f tt))
+  module _ (given : Floats counts e) where
+    -- one item more changes nothing
+    abbrev Stays : Float → ℕ → Type 0
+    Stays v t = (next v t ≡ v) × (T (counts t) → T (before upper v (e t)))
+
+    -- it is taken, since v does not come before it
+    abbrev Taken : Float → ℕ → Type 0
+    Taken v t = (next v t ≡ e t) × T (counts t) × T (not (before upper v (e t)))
+
+    next-cases : (v : Float) (t : ℕ) → F64 v → Stays v t ⊎ Taken v t
+    unfolding next
+    next-cases v t p =
+        by-test (counts t)
+        (λ k. by-test (before upper v (e t)) (λ h. inl (rw (k, is k, h), λ c. rw h tt)) (λ h. inr (rw (k, is k, h), rw k tt, rw h tt)))
+        (λ k. inl (rw k, λ c. absurd (rw k at c)))
+      where
+        is : counts t ≡ true → pick upper v (e t) ≡ cond (before upper v (e t)) v (e t)
+        is k = pick-is upper v (e t) (p .number) (given .f64 t (rw k tt) .number)
 
     next-f64 : (v : Float) (t : ℕ) → F64 v → F64 (next v t)
-    next-f64 v t p = ⊎-elim (λ w. rw (w .0) p) (λ w. rw (w .0) (f64 t (w .1))) (next-cases v t p)
+    next-f64 v t p = ⊎-elim (λ w. rw (w .0) p) (λ w. rw (w .0) (given .f64 t (w .1))) (next-cases v t p)
 
-    pub picked-f64 : (v : Float) (l : List ℕ) → F64 v → F64 (picked v l)
+    next-before : (v : Float) (t : ℕ) → F64 v → T (before upper (next v t) v)
+    next-before v t p =
+        ⊎-elim
+        (λ w. rw (w .0) (before-refl upper v (p .number)))
+        (λ w. rw (w .0) (before-turn upper v (e t) (p .number) (given .f64 t (w .1) .number) (w .2)))
+        (next-cases v t p)
+
+    next-before-item : (v : Float) (t : ℕ) → F64 v → T (counts t) → T (before upper (next v t) (e t))
+    next-before-item v t p k =
+        ⊎-elim (λ w. rw (w .0) (w .1 k)) (λ w. rw (w .0) (before-refl upper (e t) (given .f64 t k .number))) (next-cases v t p)
+
+    picked-f64 : (v : Float) (l : List ℕ) → F64 v → F64 (picked v l)
     unfolding picked
     picked-f64 v [] p = p
     picked-f64 v (t ∷ rest) p = picked-f64 (next v t) rest (next-f64 v t p)
 
-    -- c comes before the floats of the items that count
+    -- c comes before the floats that count
     abbrev Bound : Float → List ℕ → Type 0
     Bound c l = All (λ t. T (counts t) → T (before upper c (e t))) l
 
@@ -118,10 +175,7 @@ module _ (upper : Bool) (counts : ℕ → Bool) (e : ℕ → Float) where
     picked-bound c v [] p h = (h, tt)
     picked-bound c v (t ∷ rest) p h =
         let more = picked-bound c (next v t) rest (next-f64 v t p) h in
-        ⊎-elim
-        (λ w. let here = rw (w .0) at (more .0) in (here, (λ k. before-trans upper c v (e t) here (w .1 k), more .1)))
-        (λ w. let here = rw (w .0) at (more .0) in (before-trans upper c (e t) v here (before-turn upper v (e t) (p .number) (f64 t (w .1) .number) (w .2)), (λ k. here, more .1)))
-        (next-cases v t p)
+        (before-trans upper c (next v t) v (more .0) (next-before v t p), (λ k. before-trans upper c (next v t) (e t) (more .0) (next-before-item v t p k), more .1))
 
     -- and the other way round
     bound-picked : (c v : Float) (l : List ℕ) → F64 v → T (before upper c v) → Bound c l → T (before upper c (picked v l))
@@ -130,47 +184,68 @@ module _ (upper : Bool) (counts : ℕ → Bool) (e : ℕ → Float) where
     bound-picked c v (t ∷ rest) p h b =
         bound-picked c (next v t) rest (next-f64 v t p) (⊎-elim (λ w. rw (w .0) h) (λ w. rw (w .0) (b .0 (w .1))) (next-cases v t p)) (b .1)
 
-    -- lists with the same items have the same result but for the sign of a zero
-    pub picked-alike : (v : Float) (l l' : List ℕ) → F64 v → ((P : ℕ → Type 0) → All P l → All P l') → ((P : ℕ → Type 0) → All P l' → All P l) → Alike (picked v l) (picked v l')
-    picked-alike v l l' p there back =
-        let a = picked-f64 v l p in
-        let b = picked-f64 v l' p in
-        let own = picked-bound (picked v l) v l p (before-refl upper (picked v l) (a .number)) in
-        let own' = picked-bound (picked v l') v l' p (before-refl upper (picked v l') (b .number)) in
-        eq-alike binary64 (picked v l) (picked v l') (a .fit) (b .fit)
-        (before-antisym upper (picked v l) (picked v l')
-        (bound-picked (picked v l) v l' p (own .0) (there _ (own .1)))
-        (bound-picked (picked v l') v l p (own' .0) (back _ (own' .1))))
-
-    picked-before : (v : Float) (l : List ℕ) → F64 v → T (before upper (picked v l) v)
-    picked-before v l p = picked-bound (picked v l) v l p (before-refl upper (picked v l) (picked-f64 v l p .number)) .0
+    -- the result comes before every float
+    picked-first : (v : Float) (l : List ℕ) → F64 v → T (before upper (picked v l) v) × Bound (picked v l) l
+    picked-first v l p = picked-bound (picked v l) v l p (before-refl upper (picked v l) (picked-f64 v l p .number))
 
     -- a zero stays if the result is zero
     zero-stays : (v : Float) (l : List ℕ) → F64 v → T (eq v zero) → T (eq (picked v l) zero) → picked v l ≡ v
     unfolding picked
     zero-stays v [] p z h = refl
     zero-stays v (t ∷ rest) p z h =
-        let more = next-cases v t p in
         ⊎-elim
         (λ w. rw (w .0) (zero-stays v rest p z (rw (w .0) at h)))
-        (λ w. let low = picked-before (e t) rest (f64 t (w .1)) in
-        let here : T (eq (picked (e t) rest) zero) = rw (w .0) at h in
-        absurd (T-not (before upper v (e t)) (w .2) (before-trans upper v (picked (e t) rest) (e t) (before-zeros upper v (picked (e t) rest) z here) low)))
-        more
+        (λ w. absurd (passed (given .f64 t (w .1)) (w .2) (rw (w .0) at h)))
+        (next-cases v t p)
+      where
+        -- what v does not come before cannot end in a zero
+        passed : F64 (e t) → T (not (before upper v (e t))) → T (eq (picked (e t) rest) zero) → ⊥
+        passed q n end =
+            T-not (before upper v (e t)) n
+            (before-trans upper v (picked (e t) rest) (e t) (before-zeros upper v (picked (e t) rest) z end) (picked-first (e t) rest q .0))
 
-    -- from what is not zero, a result that is zero is the first zero of the list
-    pub picked-zero : (v : Float) (l : List ℕ) → F64 v → T (not (eq v zero)) → T (eq (picked v l) zero) → picked v l ≡ firstZero e l .edge
+    -- from what is not zero on, a result that is zero is the first zero of the list
+    picked-zero : (v : Float) (l : List ℕ) → F64 v → T (not (eq v zero)) → T (eq (picked v l) zero) → picked v l ≡ firstZero e l .edge
     unfolding picked firstZero
     picked-zero v [] p n h = absurd (T-not (eq v zero) n h)
     picked-zero v (t ∷ rest) p n h =
         by-test (eq (e t) zero)
-        (λ z. rw z (⊎-elim (λ w. absurd (kept z w)) (λ w. rw (w .0) (zero-stays (e t) rest (f64 t (w .1)) (rw z tt) (rw (w .0) at h))) (next-cases v t p)))
+        (λ z. rw z (⊎-elim (λ w. absurd (kept (rw z tt) w)) (λ w. rw (w .0) (zero-stays (e t) rest (given .f64 t (w .1)) (rw z tt) (rw (w .0) at h))) (next-cases v t p)))
         (λ z. rw z (picked-zero (next v t) rest (next-f64 v t p) (⊎-elim (λ w. rw (w .0) n) (λ w. rw (w .0, z) tt) (next-cases v t p)) h))
       where
-        -- v would be zero
-        kept : eq (e t) zero ≡ true → (next v t ≡ v) × (T (counts t) → T (before upper v (e t))) → ⊥
+        -- beside a zero that is not taken v would be zero
+        kept : T (eq (e t) zero) → Stays v t → ⊥
         kept z w =
-            let here : T (eq (e t) zero) = rw z tt in
-            let end : T (eq (picked v rest) zero) = rw (w .0) at h in
-            let back = before-trans upper (e t) (picked v rest) v (before-zeros upper (e t) (picked v rest) here end) (picked-before v rest p) in
-            T-not (eq v zero) n (eq-zero v (e t) (before-antisym upper v (e t) (w .1 (zeros t here)) back) here)
+            let back = before-trans upper (e t) (picked v rest) v (before-zeros upper (e t) (picked v rest) z (rw (w .0) at h)) (picked-first v rest p .0) in
+            T-not (eq v zero) n (eq-zero v (e t) (before-antisym upper v (e t) (w .1 (given .zeros t z)) back) z)
+
+    least-f64 : (l : List ℕ) → F64 (least l)
+    least-f64 l = picked-f64 (inf upper) l (infinity-f64 upper)
+
+    -- of sorted items it is the same but for the sign of a zero
+    pub least-alike : (items : List ℕ) → Alike (least (sorted items)) (least items)
+    least-alike items =
+        let start = infinity-f64 upper in
+        let a = least (sorted items) in
+        let b = least items in
+        let first = picked-first (inf upper) (sorted items) start in
+        let other = picked-first (inf upper) items start in
+        eq-alike binary64 a b (least-f64 (sorted items) .fit) (least-f64 items .fit)
+        (before-antisym upper a b
+        (bound-picked a (inf upper) items start (first .0) (all-unsorted _ items (first .1)))
+        (bound-picked b (inf upper) (sorted items) start (other .0) (all-sortedBy _ (λ x. x) items (other .1))))
+
+    first-zero : (l : List ℕ) → T (eq (least l) zero) → least l ≡ firstZero e l .edge
+    first-zero l z = picked-zero (inf upper) l (infinity-f64 upper) (infinity-not-zero upper) z
+
+    -- a zero is the first of the list
+    pub least-zero : (l : List ℕ) → T (isZero (least l)) → least l ≡ firstZero e l .edge
+    least-zero l z = first-zero l (zero-eq (least l) (least-f64 l .number) z)
+
+    -- of sorted items it is the same if it is not zero, and otherwise the first zero
+    pub least-settled : (items : List ℕ) → least (sorted items) ≡ cond (eq (least items) zero) (firstZero e (sorted items) .edge) (least items)
+    least-settled items =
+        let equal = alike-eq (least-f64 (sorted items) .number) (least-alike items) in
+        by-test (eq (least items) zero)
+        (λ z. rw z (first-zero (sorted items) (eq-zero (least (sorted items)) (least items) equal (rw z tt))))
+        (λ z. rw z (not-zero (least-f64 items .number) z (least-alike items)))

@@ -1,10 +1,10 @@
 -- The difference of two floats where the signs of zeros may differ: beside a float that is not zero the sign of a zero does not show, and a
 -- float less itself is always the same zero.
-use Prim.Native.Nat.{ℕ, _+_, _-_, _*_, _<_}
+use Prim.Native.Nat.{ℕ, _*_, _<_}
 use native.Mathlib.Nat as Nat
 use native.Mathlib.Omega.{arith}
-use mathlib.Core.Path.{_≡_, refl, sym, ap, ap₂, _∙_}
-use mathlib.Core.Logic.{_⊎_, inl, inr}
+use mathlib.Core.Path.{_≡_, refl, sym, ap₂, _∙_}
+use mathlib.Core.Logic.{inl, inr}
 use mathlib.Core.Bool.{Bool, true, false, not}
 use lib.IntN.{ℤ}
 use lib.Dec.{T, eqb, ltb, eqb→eq}
@@ -15,6 +15,11 @@ use lib.Ieee.Scale.{round-same}
 use borrow.Author.Tests.{eqb-false, lt-ltb, le-ltb}
 use Rattle.float.specs.Arithmetic.{_⊖_}
 use Rattle.float.specs.Order.{Finite, isZero, Alike, add-comm}
+
+-- two cases, by a test's outcome
+pub by-test : (b : Bool) {A : Type 0} → (b ≡ true → A) → (b ≡ false → A) → A
+by-test true f g = f refl
+by-test false f g = g refl
 
 -- nothing and b / c with the sign t
 sum-zero : (f : Format) (s t : Bool) (b c : ℕ) → 0 < b → sum f s 0 t b c ≡ round f t b c
@@ -82,16 +87,16 @@ zero-finite nan z = z
 zero-finite (inf s) z = z
 zero-finite (fin s m e) z = tt
 
-either : (b : Bool) → T b ⊎ T (not b)
-either true = inl tt
-either false = inr tt
-
 -- `hi` less `lo`, where each may differ in the sign of a zero, but where both are zeros they are one
 pub sub-same : {lo lo' hi hi' : Float} → Alike lo lo' → Alike hi hi' → (T (isZero lo) → T (isZero hi) → lo ≡ hi) → (T (isZero lo') → T (isZero hi') → lo' ≡ hi') → hi ⊖ lo ≡ hi' ⊖ lo'
 sub-same (inl p) (inl q) one one' = rw (p, q)
 sub-same {lo} {lo'} {hi} {hi'} (inl p) (inr z) one one' =
-    elim (either (isZero lo)) [ inl w ↦ ap₂ _⊖_ (sym (one w (z .0)) ∙ p ∙ one' (rw p at w) (z .1)) p | inr h ↦ rw (← p) (sub-beside hi hi' lo (z .0) (z .1) h .0) ]
+    by-test (isZero lo)
+    (λ w. ap₂ _⊖_ (sym (one (rw w tt) (z .0)) ∙ p ∙ one' (rw (← p, w) tt) (z .1)) p)
+    (λ n. rw (← p) (sub-beside hi hi' lo (z .0) (z .1) (rw n tt) .0))
 sub-same {lo} {lo'} {hi} {hi'} (inr z) (inl q) one one' =
-    elim (either (isZero hi)) [ inl w ↦ ap₂ _⊖_ q (one (z .0) w ∙ q ∙ sym (one' (z .1) (rw q at w))) | inr h ↦ rw (← q) (sub-beside lo lo' hi (z .0) (z .1) h .1) ]
+    by-test (isZero hi)
+    (λ w. ap₂ _⊖_ q (one (z .0) (rw w tt) ∙ q ∙ sym (one' (z .1) (rw (← q, w) tt))))
+    (λ n. rw (← q) (sub-beside lo lo' hi (z .0) (z .1) (rw n tt) .1))
 sub-same {lo} {lo'} {hi} {hi'} (inr z) (inr w) one one' =
     rw (one (z .0) (w .0), one' (z .1) (w .1)) (sub-self hi (zero-finite hi (w .0)) ∙ sym (sub-self hi' (zero-finite hi' (w .1))))

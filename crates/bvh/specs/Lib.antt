@@ -15,6 +15,7 @@ pub mod Node
 pub mod Extent
 pub mod ExtentZeros
 pub mod ExtentFolds
+pub mod ExtentLoops
 pub mod ExtentLaws
 pub mod Median
 pub mod MedianLaws

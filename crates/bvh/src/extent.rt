@@ -13,7 +13,7 @@ use math::BoundingBox;
 use math::Vec3;
 
 // What one loop over the items of a node finds.
-pub struct Extent {
+struct Extent {
     // The join of their own boxes in the order of the loop.
     joined: BoundingBox,
     // On each axis the lowest and the highest finite centre.
@@ -104,7 +104,7 @@ fn widest_axis(size: Vec3) -> usize
 }
 
 // The lowest-numbered item so far whose edge is zero, and that edge.
-pub struct Found {
+struct Found {
     item: u32,
     edge: f64,
 }
@@ -210,6 +210,7 @@ pub struct Measured {
     pub axis: usize,
 }
 
+// Measures a node's items, in whatever order they stand.
 pub fn measure(
     coords: &[f64],
     corners: &[u32],

@@ -8,7 +8,7 @@ use lib.ListN.{length, drop, drop-of-length-le}
 use borrow.Author.Needs.{needs}
 use Rattle.bvh.specs.Tree.{mesh}
 use Rattle.bvh.specs.Extent.{nothing, extendAll, extentOf}
-use Rattle.bvh.specs.ExtentLaws.{extendAll-next}
+use Rattle.bvh.specs.ExtentLoops.{extendAll-next}
 use Rattle.bvh.proofs.extent.extent_of.Statement.{statement}
 use Rattle.bvh.proofs.extent.extent_of.Tie as tie
 

@@ -1,8 +1,5 @@
 -- `higher` meets its contract: its cases are those of the definition.
 use borrow.Author.Needs.{needs}
-use mathlib.Core.Path.{_≡_}
-use mathlib.Core.Bool.{true, false}
-use Rattle.float.specs.Rules as Rules
 use Rattle.bvh.specs.Extent.{higher}
 use Rattle.bvh.proofs.extent.higher.Statement.{statement}
 use Rattle.bvh.proofs.extent.higher.Tie as tie

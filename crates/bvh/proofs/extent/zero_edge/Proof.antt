@@ -9,7 +9,7 @@ use borrow.Author.Needs.{needs}
 use Rattle.keys.specs.Sorting.{sortedBy, sorted}
 use Rattle.bvh.specs.Tree.{mesh}
 use Rattle.bvh.specs.Extent.{ownEdge, noZero, firstZero}
-use Rattle.bvh.specs.ExtentLaws.{firstZero-next}
+use Rattle.bvh.specs.ExtentLoops.{firstZero-next}
 use Rattle.bvh.proofs.extent.zero_edge.Statement.{statement}
 use Rattle.bvh.proofs.extent.zero_edge.Tie as tie
 
