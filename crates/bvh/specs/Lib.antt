@@ -21,3 +21,5 @@ pub mod Median
 pub mod MedianLaws
 pub mod MedianTheorem
 pub mod Leaf
+pub mod Build
+pub mod BuildLaws

@@ -1,0 +1,65 @@
+-- The builder (document 01): questions 1 to 6, what is written into the lent lists, and what its steps promise to each other. Definitions only.
+use Prim.Native.Nat.{ℕ, _+_, _*_, _≤_, _<_}
+use mathlib.Core.Path.{_≡_}
+use mathlib.Core.Bool.{Bool, _&&_}
+use mathlib.Core.List.{List}
+use lib.Dec.{leb}
+use lib.Ieee.{Float}
+use lib.ListN.{length}
+use lib.Seq.{sets}
+use Rattle.keys.specs.Sorting.{sorted}
+use Rattle.lent.specs.Over.{over}
+use Rattle.refusal.specs.declared.Refusal.the-variants as Refusals
+use Rattle.refusal.specs.declared.Verdict.{Verdict}
+use Rattle.refusal.specs.declared.Verdict.the-variants as Verdicts
+use Rattle.refusal.specs.Verdicts.{ask, then, written}
+use Rattle.mesh.specs.Questions.{askMesh}
+use Rattle.bvh.specs.declared.build.Built.{Built}
+use Rattle.bvh.specs.declared.build.Built.the-variants.{Refused, Nodes}
+use Rattle.bvh.specs.Tree.{Mesh, triangleCount, nodeCount}
+use Rattle.bvh.specs.Node.{Items}
+use Rattle.bvh.specs.Builder.{treeOver, size, boxList, nodeList, itemList, layout}
+
+-- ---- the public entry
+
+-- question 6: is there room for six floats of boxes, two node numbers and one item a triangle in lists of these lengths?
+unfoldable pub room : ℕ → ℕ → ℕ → ℕ → Bool
+room triangles boxes nodes items = leb (6 * triangles) boxes && leb (2 * triangles) nodes && leb triangles items
+
+-- questions 1 to 6
+unfoldable pub askBuild : Mesh → ℕ → ℕ → ℕ → Verdict
+askBuild m boxes nodes items = then (askMesh (m .coords) (m .corners) (m .ends)) (ask (room (triangleCount m) boxes nodes items) Refusals.Room)
+
+-- the verdict on a mesh and the lent buffers
+abbrev pub verdict : Mesh → List Float → List ℕ → List ℕ → Verdict
+verdict m boxes nodes items = askBuild m (length boxes) (length nodes) (length items)
+
+-- the answer: the number of nodes of the builder rule's tree unless a question refuses
+unfoldable pub buildAnswer : Verdict → Mesh → Built
+buildAnswer Verdicts.Passed m = Nodes (nodeCount (layout m))
+buildAnswer (Verdicts.Refused refusal) m = Refused refusal
+
+-- what `build` promises: its answer, and of each buffer, lent as ₀ and left as ₁, the list of the builder rule's tree in front and the rest as it was
+pub record Builds (m : Mesh) (boxes₀ : List Float) (nodes₀ items₀ : List ℕ) (result : Built) (boxes₁ : List Float) (nodes₁ items₁ : List ℕ) : Type 0 where
+  pub answer : result ≡ buildAnswer (verdict m boxes₀ nodes₀ items₀) m
+  pub boxes : boxes₁ ≡ over (written (verdict m boxes₀ nodes₀ items₀) (layout m .boxes)) boxes₀
+  pub nodes : nodes₁ ≡ over (written (verdict m boxes₀ nodes₀ items₀) (layout m .nodes)) nodes₀
+  pub items : items₁ ≡ over (written (verdict m boxes₀ nodes₀ items₀) (layout m .items)) items₀
+
+-- ---- a node
+
+-- there is room for the subtree over items in lists of these lengths, from node n and item place i on, and its numbers are small
+pub record Room (m : Mesh) (sides boxes nodes : ℕ) (items : List ℕ) (n i : ℕ) : Type 0 where
+  pub given : Items m sides items
+  pub some : 0 < length items
+  pub for-boxes : 6 * (n + size (treeOver m (sorted items))) ≤ boxes
+  pub for-nodes : 2 * (n + size (treeOver m (sorted items))) ≤ nodes
+  pub few-nodes : n + size (treeOver m (sorted items)) ≤ 262144
+  pub few-items : i + length items ≤ 262144
+
+-- what `build_node` promises: the next free node, and of each buffer, lent as ₀ and left as ₁, the subtree from node n and item place i on
+pub record Writes (m : Mesh) (boxes₀ : List Float) (nodes₀ items₀ : List ℕ) (n i next : ℕ) (boxes₁ : List Float) (nodes₁ items₁ : List ℕ) : Type 0 where
+  pub end : next ≡ n + size (treeOver m (sorted items₀))
+  pub boxes : boxes₁ ≡ sets boxes₀ (6 * n) (boxList (treeOver m (sorted items₀)))
+  pub nodes : nodes₁ ≡ sets nodes₀ (2 * n) (nodeList n i (treeOver m (sorted items₀)))
+  pub items : items₁ ≡ itemList (treeOver m (sorted items₀))

@@ -1,0 +1,120 @@
+// The builder: document 01's questions 1 to 6, and then the tree of the builder rule (csx's bvh.rs). The
+// definitions are in specs/Builder.antt (the rule) and specs/Build.antt (the questions and the promise).
+ghost use mathlib.Core.Path.{_≡_};
+ghost use Prim.Native.Nat.{_+_, _*_, _≤_, _<_};
+ghost use lib.ListN.{length, set};
+ghost use lib.Seq.{sets};
+ghost use Rattle.keys.specs.Sorting.{sorted};
+ghost use Rattle.bvh.specs.Tree as Tree;
+ghost use Rattle.bvh.specs.Node as Node;
+ghost use Rattle.bvh.specs.Builder as Builder;
+ghost use Rattle.bvh.specs.Build as Build;
+use crate::extent::measure;
+use crate::leaf::sort_items;
+use crate::median::halve;
+use math::BoundingBox;
+use mesh::Asked;
+use refusal::Refusal;
+
+// What the builder answers: a refusal, or how many nodes it wrote.
+pub enum Built {
+    Refused(Refusal),
+    Nodes(usize),
+}
+
+// Writes the box of node `n`.
+fn put_box(boxes: &mut [f64], n: usize, b: BoundingBox)
+    requires { ⌜ 6 * n + 6 ≤ length (now boxes) ⌝ }
+    ensures { λ _. ⌜ now (boxes .exit) ≡ sets (now (boxes .entry)) (6 * n) (Builder.edges b) ⌝ }
+{
+    boxes[6 * n] = b.min.x;
+    boxes[6 * n + 1] = b.min.y;
+    boxes[6 * n + 2] = b.min.z;
+    boxes[6 * n + 3] = b.max.x;
+    boxes[6 * n + 4] = b.max.y;
+    boxes[6 * n + 5] = b.max.z;
+}
+
+// Writes the start and the count of node `n`.
+fn put_node(nodes: &mut [u32], n: usize, start: usize, count: usize)
+    requires { ⌜ (2 * n + 2 ≤ length (now nodes)) × (start < 4294967296) × (count < 4294967296) ⌝ }
+    ensures { λ _. ⌜ now (nodes .exit) ≡ set (set (now (nodes .entry)) (2 * n) start) (2 * n + 1) count ⌝ }
+{
+    nodes[2 * n] = start as u32;
+    nodes[2 * n + 1] = count as u32;
+}
+
+// Writes a leaf as node `n`, its items sorted, which begin at place `i`.
+fn build_leaf(nodes: &mut [u32], items: &mut [u32], n: usize, i: usize)
+    requires { ⌜ (2 * n + 2 ≤ length (now nodes)) × (i < 4294967296) × (length (now items) ≤ 4) ⌝ }
+    ensures { λ _. ⌜ (now (items .exit) ≡ sorted (now (items .entry))) × (now (nodes .exit) ≡ set (set (now (nodes .entry)) (2 * n) i) (2 * n + 1) (length (now (items .entry)))) ⌝ }
+{
+    sort_items(items);
+    put_node(nodes, n, i, items.len());
+}
+
+// Writes the box of node `n` over the items, and returns the axis on which they are split.
+fn start_node(
+    coords: &[f64],
+    corners: &[u32],
+    ends: &[u32],
+    sides: usize,
+    boxes: &mut [f64],
+    items: &[u32],
+    n: usize,
+) -> usize
+    requires { ⌜ Node.Items (Tree.mesh (now coords) (now corners) (now ends)) sides (now items) × (0 < length (now items)) × (6 * n + 6 ≤ length (now boxes)) ⌝ }
+    ensures { λ r. ⌜ (r ≡ Builder.splitAxis (Tree.mesh (now (coords .entry)) (now (corners .entry)) (now (ends .entry))) (sorted (now (items .entry)))) × (now (boxes .exit) ≡ sets (now (boxes .entry)) (6 * n) (Builder.edges (Builder.nodeBox (Tree.mesh (now (coords .entry)) (now (corners .entry)) (now (ends .entry))) (sorted (now (items .entry)))))) ⌝ }
+{
+    let measured = measure(coords, corners, ends, sides, items);
+    put_box(boxes, n, measured.bounds);
+    measured.axis
+}
+
+// Writes the subtree over the items, from node `n` and item place `i` on, and returns the next free node.
+fn build_node(
+    coords: &[f64],
+    corners: &[u32],
+    ends: &[u32],
+    sides: usize,
+    boxes: &mut [f64],
+    nodes: &mut [u32],
+    items: &mut [u32],
+    n: usize,
+    i: usize,
+) -> usize
+    requires { ⌜ Build.Room (Tree.mesh (now coords) (now corners) (now ends)) sides (length (now boxes)) (length (now nodes)) (now items) n i ⌝ }
+    ensures { λ r. ⌜ Build.Writes (Tree.mesh (now (coords .entry)) (now (corners .entry)) (now (ends .entry))) (now (boxes .entry)) (now (nodes .entry)) (now (items .entry)) n i r (now (boxes .exit)) (now (nodes .exit)) (now (items .exit)) ⌝ }
+{
+    let axis = start_node(coords, corners, ends, sides, boxes, items, n);
+    let places = items.len();
+    if places <= 4 {
+        build_leaf(nodes, items, n, i);
+        return n + 1;
+    }
+    halve(coords, corners, ends, sides, axis, items);
+    let half = places / 2;
+    let right = build_node(
+        coords,
+        corners,
+        ends,
+        sides,
+        boxes,
+        nodes,
+        &mut items[0..half],
+        n + 1,
+        i,
+    );
+    put_node(nodes, n, right, 0);
+    build_node(
+        coords,
+        corners,
+        ends,
+        sides,
+        boxes,
+        nodes,
+        &mut items[half..places],
+        right,
+        i + half,
+    )
+}
