@@ -14,6 +14,7 @@ use Rattle.refusal.specs.declared.Verdict.{Verdict}
 use Rattle.refusal.specs.declared.Verdict.the-variants as Verdicts
 use Rattle.refusal.specs.Verdicts.{ask, then, written}
 use Rattle.mesh.specs.Questions.{askMesh}
+use Rattle.mesh.specs.Accepted.{Accepted}
 use Rattle.bvh.specs.declared.build.Built.{Built}
 use Rattle.bvh.specs.declared.build.Built.the-variants.{Refused, Nodes}
 use Rattle.bvh.specs.Tree.{Mesh, triangleCount, nodeCount}
@@ -56,6 +57,14 @@ pub record Room (m : Mesh) (sides boxes nodes : ℕ) (items : List ℕ) (n i : �
   pub for-nodes : 2 * (n + size (treeOver m (sorted items))) ≤ nodes
   pub few-nodes : n + size (treeOver m (sorted items)) ≤ 262144
   pub few-items : i + length items ≤ 262144
+
+-- an accepted mesh has triangles, an item place for each, and room for six floats and two node numbers for each
+pub record Whole (m : Mesh) (boxes nodes items : ℕ) : Type 0 where
+  pub accepted : Accepted (m .coords) (m .corners) (m .ends)
+  pub all : items ≡ triangleCount m
+  pub some : 0 < triangleCount m
+  pub for-boxes : 6 * triangleCount m ≤ boxes
+  pub for-nodes : 2 * triangleCount m ≤ nodes
 
 -- what `build_node` promises: the next free node, and of each buffer, lent as ₀ and left as ₁, the subtree from node n and item place i on
 pub record Writes (m : Mesh) (boxes₀ : List Float) (nodes₀ items₀ : List ℕ) (n i next : ℕ) (boxes₁ : List Float) (nodes₁ items₁ : List ℕ) : Type 0 where

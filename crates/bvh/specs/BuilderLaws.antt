@@ -7,7 +7,7 @@ use mathlib.Core.Logic.{⊎-elim}
 use mathlib.Core.Bool.{true, cond}
 use mathlib.Core.List.{List, [], _∷_, _++_}
 use lib.Dec.{eqb}
-use lib.ListN.{length, take, drop, length-take, length-drop, length-append, take-append-drop}
+use lib.ListN.{length, getD, take, drop, length-take, length-drop, length-append, take-append-drop}
 use borrow.Author.Tests.{le-leb, lt-leb}
 use Rattle.keys.specs.Sorting.{count, All}
 use Rattle.keys.specs.SortingTheorems.{le-or-lt, all-sortedBy, sortedBy-sum, length-sortedBy}
@@ -184,3 +184,9 @@ pub length-numbers : (first n : ℕ) → length (numbers first n) ≡ n
 unfolding numbers
 length-numbers first zero = refl
 length-numbers first (suc n) = omega (arith, length-numbers (first + 1) n)
+
+pub getD-numbers : (first n j : ℕ) → j < n → getD (numbers first n) j 0 ≡ first + j
+unfolding numbers
+getD-numbers first zero j h = absurd (omega arith)
+getD-numbers first (suc n) zero h = omega arith
+getD-numbers first (suc n) (suc j) h = getD-numbers (first + 1) n j (omega arith) ∙ omega arith

@@ -40,13 +40,13 @@ module _ (m : Mesh) where
       (le-or-lt (length items) 4)
 
   -- the nodes of the lent lists
-  nodeCount-some : 0 < triangleCount m → nodeCount (layout m) ≡ size (treeOver m (numbers 0 (triangleCount m)))
+  pub nodeCount-some : 0 < triangleCount m → nodeCount (layout m) ≡ size (treeOver m (numbers 0 (triangleCount m)))
   unfolding nodeCount layout lists builderTree
   nodeCount-some some =
       let b = treeOver m (numbers 0 (triangleCount m)) in
       rw (ne-eqb (triangleCount m) 0 (λ none. omega arith)) (omega (arith, length-nodeList 0 0 b))
 
-  nodeCount-none : triangleCount m ≡ 0 → nodeCount (layout m) ≡ 0
+  pub nodeCount-none : triangleCount m ≡ 0 → nodeCount (layout m) ≡ 0
   unfolding nodeCount layout
   nodeCount-none none = rw (eq-eqb (triangleCount m) 0 none)
 

@@ -15,6 +15,7 @@ use crate::median::halve;
 use math::BoundingBox;
 use mesh::Asked;
 use refusal::Refusal;
+use refusal::Verdict;
 
 // What the builder answers: a refusal, or how many nodes it wrote.
 pub enum Built {
@@ -117,4 +118,92 @@ fn build_node(
         right,
         i + half,
     )
+}
+
+// Writes the numbers from 0 on.
+fn number_items(items: &mut [u32])
+    requires { ⌜ length (now items) ≤ 262144 ⌝ }
+    ensures { λ _. ⌜ now (items .exit) ≡ Builder.numbers 0 (length (now (items .entry))) ⌝ }
+{
+    let mut k = 0;
+    while k < items.len() {
+        items[k] = k as u32;
+        k += 1;
+    }
+}
+
+// Writes the tree over all triangles of a mesh, for each of which there is an item place, and returns the
+// number of its nodes.
+fn build_all(
+    coords: &[f64],
+    corners: &[u32],
+    ends: &[u32],
+    boxes: &mut [f64],
+    nodes: &mut [u32],
+    items: &mut [u32],
+) -> usize
+    requires { ⌜ Build.Whole (Tree.mesh (now coords) (now corners) (now ends)) (length (now boxes)) (length (now nodes)) (length (now items)) ⌝ }
+    ensures { λ r. ⌜ Build.Writes (Tree.mesh (now (coords .entry)) (now (corners .entry)) (now (ends .entry))) (now (boxes .entry)) (now (nodes .entry)) (Builder.numbers 0 (length (now (items .entry)))) 0 0 r (now (boxes .exit)) (now (nodes .exit)) (now (items .exit)) ⌝ }
+{
+    number_items(items);
+    let sides = mesh::triangles::sides(ends);
+    build_node(coords, corners, ends, sides, boxes, nodes, items, 0, 0)
+}
+
+// Questions 1 to 6: a mesh, and lists of these lengths for its tree.
+pub fn ask_build(
+    coords: &[f64],
+    corners: &[u32],
+    ends: &[u32],
+    boxes: usize,
+    nodes: usize,
+    items: usize,
+) -> Verdict
+    ensures { λ r. ⌜ r ≡ Build.askBuild (Tree.mesh (now (coords .entry)) (now (corners .entry)) (now (ends .entry))) boxes nodes items ⌝ }
+{
+    let asked = mesh::questions::ask_mesh(coords, corners, ends);
+    match asked {
+        Asked::Refused(refusal) => Verdict::Refused(refusal),
+        Asked::Accepted(_) => {
+            let triangles = corners.len() - 2 * ends.len();
+            if (6 * triangles <= boxes) & (2 * triangles <= nodes) & (triangles <= items) {
+                Verdict::Passed
+            } else {
+                Verdict::Refused(Refusal::Room)
+            }
+        }
+    }
+}
+
+// Builds the tree of a mesh: its boxes go to `boxes`, the start and count of each node to `nodes` and the
+// triangle numbers to `items`.
+pub fn build(
+    coords: &[f64],
+    corners: &[u32],
+    ends: &[u32],
+    boxes: &mut [f64],
+    nodes: &mut [u32],
+    items: &mut [u32],
+) -> Built
+    ensures { λ r. ⌜ Build.Builds (Tree.mesh (now (coords .entry)) (now (corners .entry)) (now (ends .entry))) (now (boxes .entry)) (now (nodes .entry)) (now (items .entry)) r (now (boxes .exit)) (now (nodes .exit)) (now (items .exit)) ⌝ }
+{
+    let verdict = ask_build(coords, corners, ends, boxes.len(), nodes.len(), items.len());
+    match verdict {
+        Verdict::Refused(refusal) => Built::Refused(refusal),
+        Verdict::Passed => {
+            let triangles = corners.len() - 2 * ends.len();
+            if triangles == 0 {
+                return Built::Nodes(0);
+            }
+            let count = build_all(
+                coords,
+                corners,
+                ends,
+                boxes,
+                nodes,
+                &mut items[0..triangles],
+            );
+            Built::Nodes(count)
+        }
+    }
 }
