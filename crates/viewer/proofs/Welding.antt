@@ -1,7 +1,7 @@
 -- What a verdict says of the buffers of `csx_from_triangles`: a refusal leaves each as it was, and a passed call leaves what welding
 -- writes and the two sizes.
 use Prim.Native.Nat.{ℕ, _≤_}
-use mathlib.Core.Path.{_≡_, refl, sym, _∙_}
+use mathlib.Core.Path.{_≡_, sym, _∙_}
 use mathlib.Core.Bool.{true}
 use mathlib.Core.List.{List, [], _∷_}
 use lib.Dec.{leb}
@@ -10,14 +10,13 @@ use lib.ListN.{length, set}
 use borrow.Author.Tests.{le-leb}
 use Rattle.lent.specs.Over.{over, over-stores}
 use Rattle.refusal.specs.declared.Refusal.{Refusal}
-use Rattle.refusal.specs.declared.Verdict.{Verdict}
-use Rattle.refusal.specs.declared.Verdict.the-variants.{Passed, Refused}
+use Rattle.refusal.specs.declared.Verdict.the-variants.{Refused}
 use Rattle.refusal.specs.Numbers.{code}
 use Rattle.refusal.specs.Verdicts.{written}
 use Rattle.weld.specs.declared.Welded.{Welded}
 use Rattle.weld.specs.declared.Welded.the-variants as Answers
 use Rattle.weld.specs.Questions as Questions
-use Rattle.weld.specs.Welding as Weld
+use Rattle.weld.specs.Passed.{answer-sizes, answer-refused}
 use Rattle.viewer.specs.Welding.{verdict, sizesOf, Welds}
 
 -- a refused call changes nothing
@@ -26,30 +25,19 @@ unfolding written over
 refused triangles coords corners ends sizes refusal e =
     record { answer = rw e; coords = rw e; corners = rw e; ends = rw e; sizes = rw e }
 
--- the verdict behind an answer
-verdict-refused : (v : Verdict) (triangles : List Float) (refusal : Refusal) → Questions.weldAnswer v triangles ≡ Answers.Refused refusal → v ≡ Refused refusal
-unfolding Questions.weldAnswer
-verdict-refused Passed triangles refusal e = cc
-verdict-refused (Refused other) triangles refusal e = cc
-
-verdict-passed : (v : Verdict) (triangles : List Float) (m n : ℕ) → Questions.weldAnswer v triangles ≡ Answers.Sizes m n → (v ≡ Passed) × (m ≡ length (Weld.vertices triangles)) × (n ≡ length (Weld.faces triangles))
-unfolding Questions.weldAnswer
-verdict-passed Passed triangles m n e = (refl, cc, cc)
-verdict-passed (Refused other) triangles m n e = (cc, cc, cc)
-
 module _ (triangles coords : List Float) (corners ends sizes : List ℕ) (result : Welded) (coords₁ : List Float) (corners₁ ends₁ : List ℕ) (w : Questions.Welds triangles coords corners ends result coords₁ corners₁ ends₁) (room : 2 ≤ length sizes) where
   -- welding refused
   pub welding-refused : (refusal : Refusal) → result ≡ Answers.Refused refusal → Welds triangles coords corners ends sizes (code refusal) coords₁ corners₁ ends₁ sizes
   unfolding verdict written over
   welding-refused refusal e =
-      let v = verdict-refused _ triangles refusal (sym (w .answer) ∙ e) in
+      let v = answer-refused _ triangles refusal (sym (w .answer) ∙ e) in
       record { answer = rw v; coords = w .coords ∙ rw v; corners = w .corners ∙ rw v; ends = w .ends ∙ rw v; sizes = rw v }
 
   -- welding done
   pub welding-passed : (m n : ℕ) → result ≡ Answers.Sizes m n → Welds triangles coords corners ends sizes 0 coords₁ corners₁ ends₁ (set (set sizes 0 m) 1 n)
   unfolding verdict written sizesOf
   welding-passed m n e =
-      let parts = verdict-passed _ triangles m n (sym (w .answer) ∙ e) in
+      let parts = answer-sizes _ triangles m n (sym (w .answer) ∙ e) in
       let v = parts .0 in
       let enough : leb 2 (length sizes) ≡ true = le-leb _ _ room in
       record {

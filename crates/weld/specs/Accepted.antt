@@ -4,7 +4,7 @@ use Prim.Native.Nat.{ℕ, _+_, _-_, _*_, _/_, _%_, _≤_}
 use native.Mathlib.Omega.{arith}
 use mathlib.Core.Bool.{Bool, true, false, cond}
 use mathlib.Core.Logic.{⊎-elim}
-use mathlib.Core.Path.{_≡_, refl, ap}
+use mathlib.Core.Path.{_≡_, refl, sym, ap}
 use mathlib.Core.List.{List, [], _∷_, _++_, map, append-assoc}
 use lib.Dec.{ltb}
 use lib.Ieee.{Float}
@@ -15,8 +15,7 @@ use borrow.Author.Tests.{eq-eqb, le-leb, lt-ltb}
 use Rattle.lent.specs.Over.{take-over}
 use Rattle.math.specs.declared.Vec3.{Vec3}
 use Rattle.math.specs.Vectors.{isFinite, points, length-points}
-use Rattle.refusal.specs.declared.Verdict.{Verdict}
-use Rattle.refusal.specs.declared.Verdict.the-variants.{Passed, Refused}
+use Rattle.refusal.specs.declared.Verdict.the-variants.{Passed}
 use Rattle.refusal.specs.Verdicts.{written}
 use Rattle.mesh.specs.declared.Triangle.{Triangle}
 use Rattle.mesh.specs.Triangles.{triangle}
@@ -25,10 +24,10 @@ use Rattle.mesh.specs.Questions.{wholeVertices, endsFit, facesFit, askLengths, 
 use Rattle.mesh.specs.Walks.{both}
 use Rattle.weld.specs.Welding.{find, add, addAll, degenerate, kept, facesAmong, numbers, cornersOf, endsFrom, vertices, faces, coords, corners, ends}
 use Rattle.weld.specs.declared.Welded.the-variants.{Sizes}
-use Rattle.weld.specs.Questions.{wholeTriangles, askCorners, weldAnswer, Welds}
+use Rattle.weld.specs.Questions.{wholeTriangles, askCorners, Welds}
 use Rattle.weld.specs.Finding.{find-le, add-new, add-found, length-addAll, find-below}
 use Rattle.weld.specs.Lists.{length-numbers, points-numbers, length-cornersOf, cornersOf-append, length-endsFrom, length-facesAmong}
-use Rattle.weld.specs.Passed.{whole-passed, triangles-passed, finite-head, same-self}
+use Rattle.weld.specs.Passed.{whole-passed, triangles-passed, answer-sizes, finite-head, same-self}
 
 -- the corners of one face
 abbrev corners3 : Triangle → List ℕ
@@ -147,19 +146,13 @@ welded-accepted triangles whole finite =
     let five = finite-addAll 0 0 [] ps refl finite in
     rw (one, two, third, three, four, points-numbers vs) five
 
--- an answer with sizes says that the questions passed, and how many vertices and faces there are
-sizes-passed : (v : Verdict) (triangles : List Float) (n k : ℕ) → Sizes n k ≡ weldAnswer v triangles → (v ≡ Passed) × (n ≡ length (vertices triangles)) × (k ≡ length (faces triangles))
-unfolding weldAnswer
-sizes-passed Passed triangles n k h = (refl, cc, cc)
-sizes-passed (Refused refusal) triangles n k h = (cc, cc, cc)
-
 -- What `from_triangles` wrote, cut to the vertices and faces that it answers, passes questions 1 to 5.
 pub written-accepted : (triangles coords₀ : List Float) (corners₀ ends₀ : List ℕ) (n k : ℕ) (coords₁ : List Float) (corners₁ ends₁ : List ℕ)
     → Welds triangles coords₀ corners₀ ends₀ (Sizes n k) coords₁ corners₁ ends₁
     → askMesh (take (3 * n) coords₁) (take (3 * k) corners₁) (take k ends₁) ≡ Passed
 unfolding written coords corners ends
 written-accepted triangles coords₀ corners₀ ends₀ n k coords₁ corners₁ ends₁ w =
-    let sizes = sizes-passed _ triangles n k (w .answer) in
+    let sizes = answer-sizes _ triangles n k (sym (w .answer)) in
     let passed = sizes .0 in
     let asked = triangles-passed triangles _ _ _ passed in
     let at-coords : take (3 * n) coords₁ ≡ coords triangles = rw (w .coords, passed) (take-over (coords triangles) coords₀ (3 * n) (omega (arith, length-numbers (vertices triangles)))) in

@@ -1,4 +1,5 @@
--- What it tells that the questions pass: the lengths, and that each point is finite and so the same as itself.
+-- What follows if the questions pass: the lengths, and that each point is finite and so the same as itself; and which answer says that
+-- they pass.
 use Prim.Native.Nat.{ℕ, zero, suc, _+_, _*_, _/_, _%_, _≤_}
 use native.Mathlib.Omega.{arith}
 use mathlib.Core.Bool.{true}
@@ -12,12 +13,15 @@ use Rattle.float.specs.Order.{finite-number, le-refl, le-antisym}
 use Rattle.float.specs.Rules as Rules
 use Rattle.math.specs.declared.Vec3.{Vec3}
 use Rattle.math.specs.Vectors.{isFinite}
-use Rattle.refusal.specs.declared.Verdict.the-variants.{Passed}
+use Rattle.refusal.specs.declared.Refusal.{Refusal}
+use Rattle.refusal.specs.declared.Verdict.{Verdict}
+use Rattle.refusal.specs.declared.Verdict.the-variants.{Passed, Refused}
 use Rattle.refusal.specs.Verdicts.{ask-passed, then-passed}
 use Rattle.mesh.specs.Questions.{askVertices}
 use Rattle.mesh.specs.Walks.{both}
-use Rattle.weld.specs.Welding.{same}
-use Rattle.weld.specs.Questions.{wholeTriangles, askCorners, room, askTriangles}
+use Rattle.weld.specs.declared.Welded.the-variants as Answers
+use Rattle.weld.specs.Welding.{same, vertices, faces}
+use Rattle.weld.specs.Questions.{wholeTriangles, askCorners, room, askTriangles, weldAnswer}
 
 -- question 1
 pub whole-passed : (l : List Float) → wholeTriangles l ≡ true → (length l % 9 ≡ 0) × (length l / 9 ≤ 21845)
@@ -42,6 +46,18 @@ triangles-passed l coords corners ends h =
     let first = then-passed _ _ h in
     let second = then-passed _ _ (first .1) in
     (ask-passed _ _ (first .0), second .0, ask-passed _ _ (second .1))
+
+-- an answer with sizes says that the questions passed, and how many vertices and faces there are
+pub answer-sizes : (v : Verdict) (triangles : List Float) (n k : ℕ) → weldAnswer v triangles ≡ Answers.Sizes n k → (v ≡ Passed) × (n ≡ length (vertices triangles)) × (k ≡ length (faces triangles))
+unfolding weldAnswer
+answer-sizes Passed triangles n k e = (refl, cc, cc)
+answer-sizes (Refused refusal) triangles n k e = (cc, cc, cc)
+
+-- an answer with a refusal is that of the questions
+pub answer-refused : (v : Verdict) (triangles : List Float) (refusal : Refusal) → weldAnswer v triangles ≡ Answers.Refused refusal → v ≡ Refused refusal
+unfolding weldAnswer
+answer-refused Passed triangles refusal e = cc
+answer-refused (Refused other) triangles refusal e = cc
 
 -- the first of vertices that are all finite is, and so are the others
 pub finite-head : (m : ℕ) (p : Vec3) (rest : List Vec3) → askVertices m (p ∷ rest) ≡ Passed → (isFinite p ≡ true) × (askVertices (m + 1) rest ≡ Passed)
