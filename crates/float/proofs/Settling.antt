@@ -1,6 +1,6 @@
 -- The check of a guess p: with u = w * 2^52 - p * p + p, the number nearest to the root of w * 2^52 is p + i where u lies above 2 i p + i * i - i and not above the same at i + 1.
 use mathlib.Core.Path.{_≡_, sym, subst}
-use Prim.Native.Nat.{ℕ, _+_, _-_, _*_, _^_, _≤_, _<_}
+use Prim.Native.Nat.{ℕ, _+_, _*_, _^_, _≤_, _<_}
 use native.Mathlib.Nat.{lt-of-lt-of-le, lt-of-le-of-lt, le-trans, le-of-eq, le-of-lt, mul-le-mul-left, mul-lt-mul-of-pos-right}
 use native.Mathlib.Omega.{arith}
 use lib.Pow.{pow-add, pow-pos, pow-mono}

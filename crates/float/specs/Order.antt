@@ -401,11 +401,3 @@ max-alike {a} {a'} {b} {b'} h k = rw (lt-alike h k, eq-same h h) (cond-alike (lt
 
 -- `search float-order` proves a comparison from comparisons among the hypotheses, through sums, products, minima and maxima
 pub ruleset float-order = (finite-number, le-number-left, le-number-right, lt-number-left, lt-number-right, lt-le, le-refl, le-trans, lt-le-trans, le-lt-trans, lt-trans, le-top, bottom-le, neg-number, neg-finite, neg-anti, neg-anti-lt, add-number-left, add-number-right, add-mono, sub-number-left, sub-number-right, sub-mono, mul-finite-number, mul-mono-pos, mul-anti-neg, mul-mono, min-le-left, min-le-right, le-min, le-max-left, le-max-right, max-le, min-number, max-number, min-mono, max-mono)
-
--- what lies in a box lies in a box around it, and is below what lies in a box further up
-inside : (lo' lo x hi hi' up y : Float) → T (le lo' lo) → T (le lo x) → T (le x hi) → T (le hi hi') → T (lt hi' up) → T (le up y) → T (le lo' x) × T (le x hi') × T (lt x y)
-inside lo' lo x hi hi' up y a b c d e g = search float-order
-
--- the ends of a box, moved by a finite distance, are around what lies in the box, moved as far
-moved : (f : Format) (lo x hi r : Float) → T (le lo x) → T (le x hi) → Finite r → T (le (sub f lo r) (sub f x r)) × T (le (add f x r) (add f hi r))
-moved f lo x hi r a b p = search float-order

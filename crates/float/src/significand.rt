@@ -2,7 +2,7 @@
 // binary digits. A guess by floats is checked by whole numbers, so the answer does not rest on it:
 // where neither the guess nor one of its neighbours is right, the root is worked out digit by digit.
 ghost use mathlib.Core.Path.{_≡_};
-ghost use Prim.Native.Nat.{_+_, _*_, _%_, _^_, _≤_, _<_};
+ghost use Prim.Native.Nat.{_+_, _*_, _%_, _^_, _<_};
 ghost use Rattle.float.specs.Guess as Guess;
 ghost use Rattle.float.specs.Root.{nearestRoot};
 ghost use Rattle.float.specs.Steps.{Finds};
