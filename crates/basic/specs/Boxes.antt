@@ -1,4 +1,4 @@
--- Membership of boxes (csx's basic.rs), in csx's order of tests. Definitions, and the laws by which a walk over a list of boxes meets them.
+-- Membership of boxes (csx's basic.rs), in csx's order of tests. Definitions, and the laws by which a loop over a list of boxes computes them.
 use Prim.Native.Nat.{ℕ, _+_, _*_, _<_}
 use native.Mathlib.Omega.{arith}
 use mathlib.Core.Path.{_≡_, refl}

@@ -1,4 +1,4 @@
--- Membership of curves, wires and points (csx's curve.rs), in csx's order of steps. Definitions, and the laws by which a walk over the list's numbers meets them.
+-- Membership of curves, wires and points (csx's curve.rs), in csx's order of steps. Definitions, and the laws by which a loop over the list's numbers computes them.
 use Prim.Native.Nat.{ℕ, _+_, _*_, _/_, _<_}
 use native.Mathlib.Omega.{arith}
 use mathlib.Core.Path.{_≡_, refl}

@@ -30,7 +30,7 @@ unfoldable pub twiceIn : List ℕ → List ℕ → Bool
 twiceIn keys [] = true
 twiceIn keys (key ∷ rest) = eqb (count key keys) 2 && twiceIn keys rest
 
--- a mesh is closed when it has a face and each unordered edge is used exactly twice
+-- a mesh is closed when it has a face and each unordered edge is used exactly twice: of vertices below 65,536 a key stands for one edge (`EdgeLaws.edgeKey-same`)
 unfoldable pub closed : List (List ℕ) → Bool
 closed [] = false
 closed (face ∷ rest) = let keys = edgeKeys (face ∷ rest) in twiceIn keys keys

@@ -1,6 +1,6 @@
--- csx's `point_in_polygon` (geom.rs): even-odd, with points on an edge inside. Definitions, and the laws by which a walk over the list's numbers meets them.
+-- csx's `point_in_polygon` (geom.rs): even-odd, with points on an edge inside. Definitions, and the laws by which a loop over the list's numbers computes them.
 use mathlib.Core.Bool.{Bool, true, false, cond}
-use Prim.Native.Nat.{ℕ, zero, suc, _+_, _-_, _*_, _/_, _<_}
+use Prim.Native.Nat.{ℕ, zero, suc, _+_, _*_, _/_, _<_}
 use native.Mathlib.Omega.{arith}
 use mathlib.Core.Path.{_≡_, refl}
 use mathlib.Core.List.{List, [], _∷_}

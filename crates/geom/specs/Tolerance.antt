@@ -1,5 +1,5 @@
 -- csx's tolerances (geom.rs): `tol`, `in_range`, `angle_ok`, and the largest magnitude of a list. Definitions, and the law by which a
--- walk over the list meets `scale`.
+-- loop over the list computes `scale`.
 use mathlib.Core.Bool.{Bool, cond, _&&_}
 use Prim.Native.Nat.{ℕ, _+_, _<_}
 use native.Mathlib.Numerals.{add-one}
@@ -20,11 +20,11 @@ relTol = ofBits binary64 0x3D719799812DEA11
 abbrev pub leastMagnitude : Float
 leastMagnitude = ofBits binary64 0x01A56E1FC2F8F359
 
--- the relative tolerance times a magnitude
+-- the relative tolerance times a magnitude, which counts as 1e-300 if it is smaller
 unfoldable pub tolOf : Float → Float
 tolOf m = relTol ⊗ max m leastMagnitude
 
--- the tolerance of two numbers
+-- the tolerance of two numbers: that of the larger magnitude
 unfoldable pub tol : Float → Float → Float
 tol a b = tolOf (max (abs a) (abs b))
 

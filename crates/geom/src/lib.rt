@@ -17,7 +17,7 @@ pub struct Point2 {
     pub v: f64,
 }
 
-// The relative tolerance times the magnitudes involved.
+// The tolerance of two numbers: that of the larger magnitude.
 pub fn tol(a: f64, b: f64) -> f64
     ensures { λ r. ⌜ r ≡ Tolerance.tol a b ⌝ }
 {

@@ -1,5 +1,5 @@
--- What a call leaves in a buffer that it was lent: what it wrote at the front, and then the rest as it was; and the laws by which
--- a loop that writes place after place meets it.
+-- What a call leaves in a buffer that it was lent: what it wrote at the front, and then the rest as it was; and the laws for
+-- a loop that writes place after place.
 use Prim.Native.Nat.{ℕ, suc, _+_, _-_, _≤_, _<_}
 use native.Mathlib.Numerals.{add-one}
 use native.Mathlib.Omega.{arith}
@@ -71,7 +71,7 @@ module _ {A : Type 0} where
   unfolding over
   over-own n old h = rw (length-take-le n old h) (take-append-drop n old)
 
-  -- what is written over at least as many elements hides them
+  -- of two lists written over the front the second counts alone if it is at least as long
   pub over-over : (newer new old : List A) → length new ≤ length newer → over newer (over new old) ≡ over newer old
   unfolding over
   over-over newer new old h =

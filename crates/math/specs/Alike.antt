@@ -1,4 +1,4 @@
--- Vectors and boxes that are the same but for the signs of zeros, and what does not see those.
+-- Vectors and boxes that are the same but for the signs of zeros, and what does not depend on those.
 use mathlib.Core.Path.{_≡_}
 use lib.Ieee.{Float, binary64}
 use Rattle.float.specs.Order.{Alike, alike-refl, alike-trans, add-alike, sub-alike, mul-alike, min-alike, max-alike, le-alike}
@@ -65,7 +65,7 @@ expanded-alike {d = d} {e = e} h k =
     let same : AlikeVec (Vectors.vec d d d) (Vectors.vec e e e) = record { x = k; y = k; z = k } in
     record { min = sub-alikeVec (h .min) same; max = add-alikeVec (h .max) same }
 
--- whether a point lies in a box does not hang on the signs of zeros
+-- whether a point lies in a box does not depend on the signs of zeros
 pub contains-alike : {a b : BoundingBox} (p : Vec3) → AlikeBox a b → Boxes.contains a p ≡ Boxes.contains b p
 unfolding Boxes.contains
 contains-alike p h =

@@ -1,5 +1,5 @@
 -- csx's `Vec3` (math.rs): each method as csx writes it, in csx's order of operations; and
--- the points of a list, with the laws by which a walk over its numbers meets them.
+-- the points of a list, with the laws by which a loop over its numbers computes them.
 use mathlib.Core.Bool.{Bool, cond, _&&_}
 use Prim.Native.Nat.{ℕ, zero, suc, _+_, _*_, _/_, _<_}
 use native.Mathlib.Omega.{arith}

@@ -1,5 +1,5 @@
--- The boxes of a mesh and what is computed of them once a list (document 01, Mesh rule; csx's polyhedron.rs). Definitions, and the law by which
--- a walk over the vertices meets the mesh's box.
+-- The boxes of a mesh and what is computed of them once for a list of points (document 01, Mesh rule; csx's polyhedron.rs). Definitions, and the law by which
+-- a loop over the vertices computes the mesh's box.
 use Prim.Native.Nat.{ℕ, _+_, _*_, _<_}
 use native.Mathlib.Omega.{arith}
 use mathlib.Core.Path.{_≡_}
@@ -45,7 +45,7 @@ surfaceEps b = tolOf (max (max (norm (size b)) (norm (b .max))) (norm (b .min)))
 unfoldable pub grown : BoundingBox → BoundingBox
 grown b = expanded b (relTol ⊗ norm (size b))
 
--- what every point of a list is asked with
+-- what is computed of a mesh once for a list of points
 unfoldable pub prepare : List Float → Prepared
 prepare coords = let b = meshBox coords in record { grown = grown b; eps = surfaceEps b }
 

@@ -1,5 +1,5 @@
--- The mesh's box does not hang on the order of the vertices, but for the signs of zeros; and neither the grown-box test nor the
--- tolerance of the surface test sees those.
+-- The mesh's box does not depend on the order of the vertices, but for the signs of zeros; and neither the grown-box test nor the
+-- tolerance of the surface test depends on those.
 use mathlib.Core.Path.{_≡_, refl, ap}
 use mathlib.Core.Logic.{inl, inr}
 use mathlib.Core.Bool.{Bool, true, false, cond, _||_}
@@ -144,7 +144,7 @@ least-above m z =
     let same : lt m leastMagnitude ≡ lt zero leastMagnitude = lt-alike (inr (z, unfold ofBits in tt)) (alike-refl leastMagnitude) in
     rw (same, below)
 
--- the tolerance of a magnitude does not see the sign of a zero
+-- the tolerance of a magnitude does not depend on the sign of a zero
 pub tolOf-alike : {m n : Float} → Alike m n → tolOf m ≡ tolOf n
 unfolding tolOf
 tolOf-alike (inl e) = ap tolOf e

@@ -62,7 +62,7 @@ askParts coords corners ends =
 unfoldable pub askMesh : List Float → List ℕ → List ℕ → Verdict
 askMesh coords corners ends = then (askLengths 262144 coords corners ends) (askParts coords corners ends)
 
--- what an entry may take for granted of a mesh that passes 1 and 2, whatever the corner limit
+-- what holds of a mesh that passes 1 and 2, whatever the corner limit
 pub record Lengths (coords : List Float) (corners ends : List ℕ) : Type 0 where
   pub vertices : length coords / 3 ≤ 65536
   pub whole : length coords % 3 ≡ 0

@@ -1,4 +1,4 @@
--- The laws by which a walk over a list's places meets the definitions of the questions.
+-- The laws by which a loop over a list's places computes the definitions of the questions.
 use Prim.Native.Nat.{ℕ, _+_, _-_, _*_, _≤_, _<_}
 use native.Mathlib.Numerals.{add-one}
 use native.Mathlib.Omega.{arith}

@@ -9,7 +9,7 @@ use crate::Triangle;
 use math::BoundingBox;
 use math::Vec3;
 
-// What every point of a list is asked with.
+// What is computed of a mesh once for a list of points.
 pub struct Prepared {
     // The mesh's box, larger by the tolerance: a point outside it is outside the mesh.
     pub grown: BoundingBox,
@@ -87,7 +87,7 @@ fn grown(b: BoundingBox) -> BoundingBox
     b.expanded(geom::REL_TOL * b.size().norm())
 }
 
-// What the points of a list are asked with, from the mesh's coordinates.
+// The same from the mesh's coordinates.
 pub fn prepare(coords: &[f64]) -> Prepared
     ensures { λ r. ⌜ r ≡ Boxes.prepare (now (coords .entry)) ⌝ }
 {

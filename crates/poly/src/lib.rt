@@ -21,8 +21,8 @@ pub fn plane_axes(n: u64) -> Axes
     }
 }
 
-// Whether `p` lies between the planes at `lo` and `hi` normal to axis `norm_dir`, and its shadow in the
-// polygon.
+// Whether `p` lies between the planes at `lo` and `hi` normal to axis `norm_dir`, and its projection
+// along that axis in the polygon.
 fn inside_prism(norm_dir: u64, lo: f64, hi: f64, vertices: &[f64], p: Vec3) -> bool
     ensures { λ r. ⌜ r ≡ Planes.insidePrism «norm_dir» lo hi (now (vertices .entry)) p ⌝ }
 {

@@ -1,4 +1,4 @@
--- Document 01's questions 11, 10 and 9 of a shape, and the answer of the shape question. Definitions, and the law by which a walk over a list meets them.
+-- Document 01's questions 11, 10 and 9 of a shape, and the answer of the shape question. Definitions, and the law by which a loop over a list computes them.
 use Prim.Native.Nat.{ℕ, _+_, _/_, _%_, _<_}
 use native.Mathlib.Numerals.{add-one}
 use mathlib.Core.Path.{_≡_}

@@ -7,8 +7,9 @@ ghost use Rattle.primitives.specs.Questions as Questions;
 use math::Vec3;
 use refusal::Refusal;
 
-// A shape's numbers. The vertices of polygons and wires and the corners of multi-boxes are in the list
-// that is lent beside the shape; the other shapes do not look at that list.
+// A shape's numbers. The vertices of polygons, the points of curves and wires and the corners of
+// multi-boxes are in the list that is lent beside the shape. The other shapes take no list, and one
+// that is lent beside them is not read.
 pub enum Shape {
     // Between two opposite corners.
     Box {

@@ -7,7 +7,7 @@ ghost use Rattle.primitives.specs.Questions.{shapeAnswer, value};
 use math::Vec3;
 use primitives::Shape;
 
-// The answer for a shape, with the list lent beside it.
+// The answer for a shape with the list lent beside it.
 fn asked(shape: Shape, list: &[f64], p: Vec3) -> u64
     ensures { λ r. ⌜ r ≡ value (shapeAnswer shape (now (list .entry)) p) ⌝ }
 {
@@ -22,7 +22,7 @@ fn alone(shape: Shape, p: Vec3) -> u64
     asked(shape, &none, p)
 }
 
-// Whether the point x, y, z lies in the sphere: 0 or 1, as every shape question.
+// Whether the point x, y, z lies in the sphere.
 #[no_mangle]
 pub extern "C" fn csx_sphere(cx: f64, cy: f64, cz: f64, radius: f64, x: f64, y: f64, z: f64) -> u64
     ensures { λ r. ⌜ r ≡ value (shapeAnswer (Shapes.Sphere (vec cx cy cz) radius) [] (vec x y z)) ⌝ }

@@ -21,11 +21,11 @@ use Rattle.weld.specs.Welding as Welding
 unfoldable pub wholeTriangles : List Float → Bool
 wholeTriangles triangles = eqb (length triangles % 9) 0 && leb (length triangles / 9) 21845
 
--- question 5: is each coordinate finite? The place is the corner's, counted through all triangles
+-- question 5: is each coordinate finite? The place is that of the first corner with one that is not, counted through all triangles from 0
 unfoldable pub askCorners : List Float → Verdict
 askCorners triangles = askVertices 0 (points triangles)
 
--- question 6: is there room for 9 floats, 3 corners and one face end a triangle in lists of these lengths?
+-- question 6: have lists of these lengths room for so many triangles, 9 floats, 3 corners and one face end each?
 unfoldable pub room : ℕ → ℕ → ℕ → ℕ → Bool
 room triangles coords corners ends = leb (9 * triangles) coords && leb (3 * triangles) corners && leb triangles ends
 
