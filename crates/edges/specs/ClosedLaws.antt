@@ -1,6 +1,6 @@
 -- Whether a mesh is closed depends neither on the order of its faces (`closed-reordered`) nor on how its vertices are numbered (`closed-renumbered`).
 -- The first follows from the counts of the keys alone. For the second, the new key is made of the old one (`rekey`), and different keys stay different.
-use Prim.Native.Nat.{ℕ, _+_, _/_, _%_, _≤_, _<_}
+use Prim.Native.Nat.{ℕ, _/_, _%_, _≤_, _<_}
 use native.Mathlib.Omega.{arith}
 use mathlib.Core.Path.{_≡_, refl, sym, _∙_}
 use mathlib.Core.Logic.{⊎-elim}
