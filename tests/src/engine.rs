@@ -24,65 +24,7 @@ unsafe extern "C" {
     safe fn probe_guess(digits: u64, odd: u64) -> f64;
     safe fn probe_settle(p: u64, w: u64) -> u64;
     safe fn probe_by_digits(w: u64) -> u64;
-    safe fn csx_box(
-        ax: f64,
-        ay: f64,
-        az: f64,
-        bx: f64,
-        by: f64,
-        bz: f64,
-        x: f64,
-        y: f64,
-        z: f64,
-    ) -> u64;
-    safe fn csx_box_cylindrical(
-        ax: f64,
-        ay: f64,
-        az: f64,
-        bx: f64,
-        by: f64,
-        bz: f64,
-        x: f64,
-        y: f64,
-        z: f64,
-    ) -> u64;
     fn csx_multi_box(list: *const f64, length: usize, x: f64, y: f64, z: f64) -> u64;
-    safe fn csx_sphere(cx: f64, cy: f64, cz: f64, radius: f64, x: f64, y: f64, z: f64) -> u64;
-    safe fn csx_spherical_shell(
-        cx: f64,
-        cy: f64,
-        cz: f64,
-        radius: f64,
-        shell_width: f64,
-        x: f64,
-        y: f64,
-        z: f64,
-    ) -> u64;
-    safe fn csx_cylinder(
-        ax: f64,
-        ay: f64,
-        az: f64,
-        bx: f64,
-        by: f64,
-        bz: f64,
-        radius: f64,
-        x: f64,
-        y: f64,
-        z: f64,
-    ) -> u64;
-    safe fn csx_cylindrical_shell(
-        ax: f64,
-        ay: f64,
-        az: f64,
-        bx: f64,
-        by: f64,
-        bz: f64,
-        radius: f64,
-        shell_width: f64,
-        x: f64,
-        y: f64,
-        z: f64,
-    ) -> u64;
     fn csx_polygon(
         normal: u64,
         elevation: f64,
@@ -104,8 +46,43 @@ unsafe extern "C" {
     ) -> u64;
     fn csx_curve(list: *const f64, length: usize, x: f64, y: f64, z: f64) -> u64;
     fn csx_wire(list: *const f64, length: usize, radius: f64, x: f64, y: f64, z: f64) -> u64;
-    safe fn csx_point(px: f64, py: f64, pz: f64, x: f64, y: f64, z: f64) -> u64;
 }
+
+/// Declares questions that take floats alone.
+macro_rules! of_floats {
+    ($($name:ident($($x:ident)*))*) => {
+        unsafe extern "C" {
+            $(safe fn $name($($x: f64),*) -> u64;)*
+        }
+    };
+}
+
+of_floats! {
+    csx_box(ax ay az bx by bz x y z)
+    csx_box_cylindrical(ax ay az bx by bz x y z)
+    csx_sphere(cx cy cz radius x y z)
+    csx_spherical_shell(cx cy cz radius shell_width x y z)
+    csx_cylinder(ax ay az bx by bz radius x y z)
+    csx_cylindrical_shell(ax ay az bx by bz radius shell_width x y z)
+    csx_point(px py pz x y z)
+}
+
+/// Declares C functions that take lists, each a pointer and a length, and for
+/// each a safe function of its name that lends slices. Lists that the engine
+/// only reads are lent as mutable ones all the same, as `answer` says.
+macro_rules! of_lists {
+    ($($name:ident($($list:ident: $element:ty),*))*) => {$(
+        fn $name($($list: &mut [$element]),*) -> u64 {
+            unsafe extern "C" {
+                fn $name($($list: *mut $element, _: usize),*) -> u64;
+            }
+            // SAFETY: each list has so many elements, or is not read since it
+            // has none. They do not overlap: each is borrowed as mutable.
+            unsafe { $name($($crate::engine::lent($list), $list.len()),*) }
+        }
+    )*};
+}
+use of_lists;
 
 /// The square root.
 pub fn root(x: f64) -> f64 {
