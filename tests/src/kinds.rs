@@ -2,6 +2,7 @@
 //! own tests can give it a wrong one and see it fail.
 
 pub mod corrections;
+mod lent;
 pub mod meshes;
 pub mod order;
 pub mod remainder;
@@ -22,4 +23,17 @@ fn pairs(plan: &Plan, kind: &str, times: u64) -> impl Iterator<Item = (f64, f64)
         let a = random.any();
         (a, random.rival(a))
     }))
+}
+
+#[cfg(test)]
+mod tests {
+    use crate::plan::Plan;
+    use crate::report::Report;
+
+    /// Whether this comparison, of few inputs, fails.
+    pub fn fails(compare: impl FnOnce(&mut Report, &Plan)) -> bool {
+        let mut report = Report::new();
+        compare(&mut report, &Plan::tiny());
+        report.failed()
+    }
 }

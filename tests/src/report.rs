@@ -1,6 +1,7 @@
 //! The table of what was compared and how often it differed.
 
 use std::cmp::Ordering;
+use std::collections::BTreeMap;
 use std::fmt;
 use std::process::ExitCode;
 
@@ -129,6 +130,44 @@ impl fmt::Display for Kind {
     }
 }
 
+/// A kind, with how often each sort of answer was expected.
+pub struct Line<A> {
+    pub kind: Kind,
+    expected: BTreeMap<A, u64>,
+}
+
+impl<A: Ord + fmt::Display> Line<A> {
+    pub fn new(name: impl Into<String>) -> Self {
+        Self {
+            kind: Kind::new(name),
+            expected: BTreeMap::new(),
+        }
+    }
+
+    /// Counts an answer that was expected.
+    pub fn see(&mut self, answer: impl Into<A>) {
+        *self.expected.entry(answer.into()).or_default() += 1;
+    }
+
+    /// Adds the line to the report. It fails if one of these answers was never
+    /// expected: it then says nothing of an engine that never gives it.
+    pub fn add_to(mut self, report: &mut Report, needed: &[impl Copy + Into<A>]) {
+        for answer in needed {
+            let answer: A = (*answer).into();
+            if !self.expected.contains_key(&answer) {
+                self.kind.miss(answer.to_string());
+            }
+        }
+        report.add(self.kind);
+        let counts: Vec<String> = self
+            .expected
+            .iter()
+            .map(|(answer, times)| format!("{answer} {times}"))
+            .collect();
+        report.note(format_args!("expected: {}", counts.join(", ")));
+    }
+}
+
 /// The sums of the table. Each kind is printed as it is added.
 #[derive(Default)]
 pub struct Report {
@@ -229,6 +268,20 @@ mod tests {
         kind.miss("inside".to_string());
         assert!(kind.to_string().contains("never seen: inside"));
         assert!(report_of(kind).failed());
+    }
+
+    #[test]
+    fn a_line_that_never_saw_what_it_needs_fails() {
+        let fails = |needed: &str| {
+            let mut line: Line<String> = Line::new("test");
+            line.kind.compare(&[1.0], 2.0, 2.0);
+            line.see("inside");
+            let mut report = Report::new();
+            line.add_to(&mut report, &[needed]);
+            report.failed()
+        };
+        assert!(!fails("inside"));
+        assert!(fails("outside"));
     }
 
     #[test]

@@ -176,11 +176,10 @@ fn zero_or(answer: u64, right: u64) -> u64 {
 mod tests {
     use super::*;
     use crate::engine::SIGNIFICAND;
+    use crate::kinds::tests;
 
     fn fails(steps: &Significand) -> bool {
-        let mut report = Report::new();
-        compare(&mut report, &Plan::tiny(), steps);
-        report.failed()
+        tests::fails(|report, plan| compare(report, plan, steps))
     }
 
     fn poor_guess(_: u64, _: u64) -> f64 {

@@ -5,21 +5,19 @@ pub mod boxes;
 mod expected;
 pub mod inputs;
 pub mod keys;
-mod lent;
 pub mod questions;
 pub mod triangles;
 pub mod welding;
 
-use std::collections::BTreeMap;
-use std::fmt::Debug;
 use std::iter::once;
 
 use csx::{Polyhedron, Vec3};
 
-use self::lent::{Element, Lent, Wrong};
+use super::lent::{Element, Lent, Wrong, cut};
 use crate::engine::{self, Point, REFUSAL};
+use crate::plan::Plan;
 use crate::random::Random;
-use crate::report::{Kind, Report, Value};
+use crate::report::{self, Report, Value};
 
 /// A function under test, as those of `engine::meshes` are: it takes a mesh and
 /// a buffer.
@@ -93,18 +91,17 @@ impl Mesh {
             ends: lists.ends.to_vec(),
         }
     }
-}
 
-/// How many elements of a list are printed.
-const PRINTED: usize = 24;
-
-/// The first elements of a list, and how long it is if there are more.
-fn cut<T: Debug>(list: &[T]) -> String {
-    match list.get(..PRINTED) {
-        Some(shown) if shown.len() < list.len() => {
-            format!("{shown:?} and on to {} elements", list.len())
+    /// The mesh of these faces over the same vertices.
+    fn with_faces(&self, faces: impl IntoIterator<Item: IntoIterator<Item = u32>>) -> Self {
+        let mut mesh = Self {
+            coords: self.coords.clone(),
+            ..Self::default()
+        };
+        for face in faces {
+            mesh.push_face(face);
         }
-        _ => format!("{list:?}"),
+        mesh
     }
 }
 
@@ -176,20 +173,10 @@ impl Value for Outcome {
     }
 }
 
-/// A line of the table, with how often each sort of answer was expected.
-struct Line {
-    kind: Kind,
-    expected: BTreeMap<String, u64>,
-}
+/// A line of the table.
+type Line = report::Line<String>;
 
 impl Line {
-    fn new(name: impl Into<String>) -> Self {
-        Self {
-            kind: Kind::new(name),
-            expected: BTreeMap::new(),
-        }
-    }
-
     /// Calls the function under test, and compares its answer and every lent
     /// list with what they should be. `written` is what the buffer begins with
     /// if nothing is refused.
@@ -208,7 +195,7 @@ impl Line {
             .wrong(&Mesh::default())
             .or_else(|| buffer.wrong("buffer", written));
         self.compare(Outcome { answer, wrong }, want, || {
-            format!("{}, buffer of {}", mesh.text(), buffer.length())
+            format!("{}, buffer of {}", mesh.text(), buffer.before().len())
         });
     }
 
@@ -218,27 +205,30 @@ impl Line {
             self.see(format!("refusal {}", want / REFUSAL));
         }
     }
+}
 
-    /// Counts an answer that was expected.
-    fn see(&mut self, what: impl Into<String>) {
-        *self.expected.entry(what.into()).or_default() += 1;
+/// A function under test, and the lines that it is compared in.
+struct Asker<F> {
+    function: F,
+    rule: Line,
+    csx: Line,
+    random: Random,
+}
+
+impl<F> Asker<F> {
+    /// The line of csx has what is compared with it in its name.
+    fn new(function: F, plan: &Plan, name: &str, csx: &str) -> Self {
+        Self {
+            function,
+            rule: Line::new(format!("{name}, document 01")),
+            csx: Line::new(format!("{name}, {csx}")),
+            random: plan.random(name),
+        }
     }
 
-    /// Adds the line to the report. It fails if one of these was never expected:
-    /// it then says nothing of an engine that never gives it.
-    fn add_to(mut self, report: &mut Report, needed: &[&str]) {
-        for what in needed {
-            if !self.expected.contains_key(*what) {
-                self.kind.miss(what.to_string());
-            }
-        }
-        report.add(self.kind);
-        let counts: Vec<String> = self
-            .expected
-            .iter()
-            .map(|(what, times)| format!("{what} {times}"))
-            .collect();
-        report.note(format_args!("expected: {}", counts.join(", ")));
+    fn add_to(self, report: &mut Report, needed: &[&str], needed_of_csx: &[&str]) {
+        self.rule.add_to(report, needed);
+        self.csx.add_to(report, needed_of_csx);
     }
 }
 
@@ -254,7 +244,27 @@ fn buffer_length(needed: usize, random: &mut Random) -> usize {
 
 #[cfg(test)]
 mod tests {
+    use super::expected::refusal;
     use super::*;
+    use crate::kinds::tests;
+
+    /// An engine that asks 1 to 5 and then writes this, if there is room.
+    pub fn writes<T: Copy>(
+        lists: &engine::meshes::Mesh,
+        out: &mut [T],
+        written: impl FnOnce(&Mesh) -> Vec<T>,
+    ) -> u64 {
+        let mesh = Mesh::of(lists);
+        if let Some(refusal) = refusal(&mesh) {
+            return refusal;
+        }
+        let written = written(&mesh);
+        let Some(out) = out.get_mut(..written.len()) else {
+            return ROOM;
+        };
+        out.copy_from_slice(&written);
+        0
+    }
 
     #[test]
     fn faces_are_cut_at_the_ends() {
@@ -267,13 +277,6 @@ mod tests {
     }
 
     #[test]
-    fn long_lists_are_cut() {
-        assert_eq!(cut(&[1; 3]), "[1, 1, 1]");
-        assert!(cut(&[1; 24]).ends_with("1, 1]"));
-        assert!(cut(&[1; 25]).ends_with("1] and on to 25 elements"));
-    }
-
-    #[test]
     fn a_write_to_a_mesh_and_a_wrong_buffer_are_seen() {
         let fails = |probe: Probe<u64>| {
             let mut mesh = Mesh::default();
@@ -282,9 +285,7 @@ mod tests {
             let mut line = Line::new("test");
             let buffer = Lent::garbage(3, &mut Random::new(1));
             line.ask(probe, &mesh, buffer, 0, &[7, 8]);
-            let mut report = Report::new();
-            line.add_to(&mut report, &[]);
-            report.failed()
+            tests::fails(|report, _| report.add(line.kind))
         };
         fn right(out: &mut [u64]) -> u64 {
             out[0] = 7;
@@ -321,18 +322,5 @@ mod tests {
         assert_eq!(Outcome::answered(1).text(), "1");
         let refused = Outcome::answered(4_000_017);
         assert_eq!(refused.text(), "refusal 4, place 17");
-    }
-
-    #[test]
-    fn a_line_that_never_saw_what_it_needs_fails() {
-        let fails = |needed| {
-            let mut line = Line::new("test");
-            line.compare(Outcome::answered(ROOM), ROOM, String::new);
-            let mut report = Report::new();
-            line.add_to(&mut report, needed);
-            report.failed()
-        };
-        assert!(!fails(&["refusal 6"]));
-        assert!(fails(&["refusal 5"]));
     }
 }

@@ -29,6 +29,7 @@ pub fn compare(report: &mut Report, plan: &Plan, key: impl Fn(f64) -> u64) {
 #[cfg(test)]
 mod tests {
     use super::*;
+    use crate::kinds::tests;
 
     fn right_key(x: f64) -> u64 {
         let bits = x.to_bits();
@@ -40,9 +41,7 @@ mod tests {
     }
 
     fn fails(key: impl Fn(f64) -> u64) -> bool {
-        let mut report = Report::new();
-        compare(&mut report, &Plan::tiny(), key);
-        report.failed()
+        tests::fails(|report, plan| compare(report, plan, key))
     }
 
     #[test]

@@ -50,11 +50,10 @@ fn multiple(random: &mut Random) -> (f64, f64) {
 #[cfg(test)]
 mod tests {
     use super::*;
+    use crate::kinds::tests;
 
     fn fails(rem_euclid: impl Fn(f64, f64) -> f64) -> bool {
-        let mut report = Report::new();
-        compare(&mut report, &Plan::tiny(), rem_euclid);
-        report.failed()
+        tests::fails(|report, plan| compare(report, plan, rem_euclid))
     }
 
     #[test]

@@ -45,18 +45,15 @@ fn float(digits: &str) -> Option<f64> {
 #[cfg(test)]
 mod tests {
     use super::*;
+    use crate::kinds::tests;
     use crate::random::moved;
 
     fn fails(root: impl Fn(f64) -> f64) -> bool {
-        let mut report = Report::new();
-        compare(&mut report, &Plan::tiny(), root);
-        report.failed()
+        tests::fails(|report, plan| compare(report, plan, root))
     }
 
     fn published_fails(root: impl Fn(f64) -> f64) -> bool {
-        let mut report = Report::new();
-        published(&mut report, root);
-        report.failed()
+        tests::fails(|report, _| published(report, root))
     }
 
     #[test]

@@ -146,12 +146,7 @@ fn bounds(random: &mut Random) -> (f64, f64) {
 #[cfg(test)]
 mod tests {
     use super::*;
-
-    fn fails(compare: impl Fn(&mut Report, &Plan)) -> bool {
-        let mut report = Report::new();
-        compare(&mut report, &Plan::tiny());
-        report.failed()
-    }
+    use crate::kinds::tests::fails;
 
     fn left_min(a: f64, b: f64) -> f64 {
         if b < a || a.is_nan() { b } else { a }

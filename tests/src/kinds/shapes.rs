@@ -14,14 +14,15 @@ mod turns;
 #[cfg(test)]
 mod wrong_engines;
 
-use std::collections::BTreeMap;
+use std::fmt;
 
 use csx::CoordSystem;
 
 use self::expected::{Csx, refusal};
+use super::lent::{Lent, cut};
 use crate::engine::{Point, REFUSAL, Shape};
 use crate::random::Random;
-use crate::report::{Kind, Report, Value};
+use crate::report::{self, Kind, Value};
 
 const OUTSIDE: u64 = 0;
 const INSIDE: u64 = 1;
@@ -181,67 +182,42 @@ impl Form {
 }
 
 /// What the engine answers, in words.
-#[derive(Clone, Copy)]
+#[derive(Clone, Copy, PartialEq, Eq, PartialOrd, Ord)]
 struct Answer(u64);
+
+impl From<u64> for Answer {
+    fn from(answer: u64) -> Self {
+        Self(answer)
+    }
+}
+
+impl fmt::Display for Answer {
+    fn fmt(&self, f: &mut fmt::Formatter) -> fmt::Result {
+        match self.0 {
+            OUTSIDE => write!(f, "outside"),
+            INSIDE => write!(f, "inside"),
+            n if n % REFUSAL == 0 => write!(f, "refusal {}", n / REFUSAL),
+            n => write!(f, "{n}"),
+        }
+    }
+}
 
 impl Value for Answer {
     fn same(self, other: Self) -> bool {
-        self.0 == other.0
+        self == other
     }
 
     fn text(self) -> String {
-        match self.0 {
-            OUTSIDE => "outside".to_string(),
-            INSIDE => "inside".to_string(),
-            n if n % REFUSAL == 0 => format!("refusal {}", n / REFUSAL),
-            n => format!("{n}"),
-        }
+        self.to_string()
     }
 }
 
-/// A list lent from the middle of a buffer. On both sides of it is a NaN, so
-/// that an engine which reads past it takes it for a list with a NaN.
-struct Lent {
-    buffer: Vec<f64>,
-    before: Vec<f64>,
-}
+/// A line of the table.
+type Line = report::Line<Answer>;
 
-impl Lent {
-    fn new(list: &[f64]) -> Self {
-        let buffer = [&[f64::NAN], list, &[f64::NAN]].concat();
-        Self {
-            before: buffer.clone(),
-            buffer,
-        }
-    }
-
-    fn list(&mut self) -> &mut [f64] {
-        let end = self.buffer.len() - 1;
-        &mut self.buffer[1..end]
-    }
-
-    fn unchanged(&self) -> bool {
-        let bits = |x: &f64| x.to_bits();
-        self.buffer
-            .iter()
-            .map(bits)
-            .eq(self.before.iter().map(bits))
-    }
-}
-
-/// How many numbers of a list are printed.
-const PRINTED: usize = 24;
-
-/// The question as it is printed. The digits of each number tell it from every
-/// other.
+/// The question as it is printed.
 fn question(shape: &Shape, list: &[f64], point: Point) -> String {
-    let shown = &list[..list.len().min(PRINTED)];
-    let more = if shown.len() < list.len() {
-        format!(" and on to {} numbers", list.len())
-    } else {
-        String::new()
-    };
-    format!("{shape:?}, list {shown:?}{more}, point {point:?}")
+    format!("{shape:?}, list {}, point {point:?}", cut(list))
 }
 
 /// The function under test, and what it did with the lists.
@@ -258,14 +234,23 @@ impl Asker {
         }
     }
 
-    fn ask(&mut self, line: &mut Line, shape: &Shape, lent: &mut Lent, point: Point, want: u64) {
+    /// Asks about a point. The guards of a list are NaNs, so an engine that reads
+    /// past it takes it for a list with a NaN.
+    fn ask(
+        &mut self,
+        line: &mut Line,
+        shape: &Shape,
+        lent: &mut Lent<f64>,
+        point: Point,
+        want: u64,
+    ) {
         let got = (self.engine)(shape, lent.list(), point);
-        let list = &lent.before[1..lent.before.len() - 1];
-        let input = || question(shape, list, point);
+        let input = || question(shape, lent.before(), point);
         line.kind.compare_for(Answer(got), Answer(want), input);
-        *line.expected.entry(want).or_default() += 1;
-        if !list.is_empty() {
-            self.lists.compare_for(lent.unchanged(), true, input);
+        line.see(want);
+        if !lent.before().is_empty() {
+            let unchanged = lent.wrong("list", &[]).is_none();
+            self.lists.compare_for(unchanged, true, input);
         }
     }
 
@@ -284,38 +269,6 @@ impl Asker {
             want
         };
         points.iter().copied().map(answer).collect()
-    }
-}
-
-/// A line of the table, with how often each answer was expected.
-struct Line {
-    kind: Kind,
-    expected: BTreeMap<u64, u64>,
-}
-
-impl Line {
-    fn new(name: impl Into<String>) -> Self {
-        Self {
-            kind: Kind::new(name),
-            expected: BTreeMap::new(),
-        }
-    }
-
-    /// Adds the line to the report. It fails if one of these answers was never
-    /// expected: it then says nothing of an engine that never gives it.
-    fn add_to(mut self, report: &mut Report, needed: &[u64]) {
-        for answer in needed {
-            if !self.expected.contains_key(answer) {
-                self.kind.miss(Answer(*answer).text());
-            }
-        }
-        report.add(self.kind);
-        let counts: Vec<String> = self
-            .expected
-            .iter()
-            .map(|(answer, times)| format!("{} {times}", Answer(*answer).text()))
-            .collect();
-        report.note(format_args!("expected: {}", counts.join(", ")));
     }
 }
 
@@ -353,32 +306,9 @@ mod tests {
     }
 
     #[test]
-    fn long_lists_are_cut() {
+    fn questions_are_printed() {
         let text = question(&Shape::Wire(0.5), &[1.0; 25], [0.0; 3]);
         assert!(text.starts_with("Wire(0.5), list [1.0, "));
-        assert!(text.ends_with("1.0] and on to 25 numbers, point [0.0, 0.0, 0.0]"));
-    }
-
-    #[test]
-    fn a_write_to_a_list_is_seen() {
-        let mut lent = Lent::new(&[1.0, 0.0]);
-        assert!(lent.unchanged());
-        lent.list()[1] = -0.0;
-        assert!(!lent.unchanged());
-    }
-
-    #[test]
-    fn a_line_that_saw_one_answer_fails_where_both_are_needed() {
-        let fails = |needed| {
-            let mut line = Line::new("test");
-            let mut report = Report::new();
-            let mut asker = Asker::new(right, "test");
-            let shape = Shape::Sphere([0.0; 3], 1.0);
-            asker.ask(&mut line, &shape, &mut Lent::new(&[]), [0.0; 3], INSIDE);
-            line.add_to(&mut report, needed);
-            report.failed()
-        };
-        assert!(!fails(&[INSIDE]));
-        assert!(fails(&[OUTSIDE, INSIDE]));
+        assert!(text.ends_with("1.0] and on to 25 elements, point [0.0, 0.0, 0.0]"));
     }
 }

@@ -6,8 +6,7 @@ use csx::{BoundingBox, Vec3};
 
 use super::expected::{box_of, center, grown, refusal, surface_eps, triangles};
 use super::inputs;
-use super::lent::Lent;
-use super::{LentMesh, Line, Mesh, Probe, ROOM, buffer_length};
+use super::{Lent, LentMesh, Line, Mesh, Probe, ROOM, buffer_length};
 use crate::plan::Plan;
 use crate::random::Random;
 use crate::report::{Kind, Report};
@@ -142,28 +141,19 @@ pub fn large(report: &mut Report, plan: &Plan, probe: Probe<f64>) {
 #[cfg(test)]
 mod tests {
     use super::super::expected::Bounds;
+    use super::super::tests::writes;
     use super::*;
     use crate::engine::Point;
     use crate::engine::meshes::Mesh as Lists;
+    use crate::kinds::tests;
 
     /// An engine that writes these numbers.
     fn by(lists: &Lists, out: &mut [f64], numbers: fn(&Mesh) -> Vec<f64>) -> u64 {
-        let mesh = Mesh::of(lists);
-        if let Some(refusal) = refusal(&mesh) {
-            return refusal;
-        }
-        let numbers = numbers(&mesh);
-        let Some(out) = out.get_mut(..numbers.len()) else {
-            return ROOM;
-        };
-        out.copy_from_slice(&numbers);
-        0
+        writes(lists, out, numbers)
     }
 
     fn fails(probe: Probe<f64>) -> bool {
-        let mut report = Report::new();
-        compare(&mut report, &Plan::tiny(), probe);
-        report.failed()
+        tests::fails(|report, plan| compare(report, plan, probe))
     }
 
     /// The numbers with another box of the mesh.
@@ -209,12 +199,8 @@ mod tests {
         })));
         // own boxes in another order of the corners
         assert!(fails(|lists, out| by(lists, out, |mesh| {
-            let mut turned = mesh.clone();
-            (turned.corners, turned.ends) = Default::default();
-            for [a, b, c] in triangles(mesh) {
-                turned.push_face([c, b, a]);
-            }
-            by_rule(&turned)
+            let turned = triangles(mesh).into_iter().map(|[a, b, c]| [c, b, a]);
+            by_rule(&mesh.with_faces(turned))
         })));
     }
 

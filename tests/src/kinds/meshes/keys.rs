@@ -4,63 +4,50 @@ use csx::primitives::polyhedron::is_closed;
 
 use super::expected::{closed, edge_keys, refusal};
 use super::inputs::{self, Numbers};
-use super::lent::Lent;
-use super::{LentMesh, Line, Mesh, Outcome, Probe, ROOM, buffer_length};
+use super::{Asker, Lent, LentMesh, Line, Mesh, Outcome, Probe, ROOM, buffer_length};
 use crate::plan::Plan;
 use crate::random::Random;
 use crate::report::Report;
 
-/// The function under test, and the lines that it is compared in.
-struct Asker {
-    probe: Probe<u64>,
-    rule: Line,
-    csx: Line,
-    random: Random,
+/// What a line has to see.
+const NEEDED: [&str; 4] = ["closed", "open", "refusal 1", "refusal 6"];
+
+/// What csx is asked.
+const CSX: &str = "closed by csx";
+
+fn ask(asker: &mut Asker<Probe<u64>>, mesh: &Mesh) {
+    let Asker {
+        function,
+        rule,
+        random,
+        ..
+    } = asker;
+    if let Some(refusal) = refusal(mesh) {
+        let buffer = Lent::garbage(mesh.corners.len(), random);
+        return rule.ask(*function, mesh, buffer, refusal, &[]);
+    }
+    let keys = edge_keys(mesh);
+    let length = buffer_length(keys.len(), random);
+    let want = if length < keys.len() {
+        ROOM
+    } else {
+        closed(mesh, &keys).into()
+    };
+    let buffer = Lent::garbage(length, random);
+    rule.ask(*function, mesh, buffer, want, &keys);
+    see(rule, want);
+    ask_csx(asker, mesh);
 }
 
-impl Asker {
-    fn new(probe: Probe<u64>, plan: &Plan, name: &str) -> Self {
-        Self {
-            probe,
-            rule: Line::new(format!("{name}, document 01")),
-            csx: Line::new(format!("{name}, closed by csx")),
-            random: plan.random(name),
-        }
-    }
-
-    fn ask(&mut self, mesh: &Mesh) {
-        if let Some(refusal) = refusal(mesh) {
-            let buffer = Lent::garbage(mesh.corners.len(), &mut self.random);
-            return self.rule.ask(self.probe, mesh, buffer, refusal, &[]);
-        }
-        let keys = edge_keys(mesh);
-        let length = buffer_length(keys.len(), &mut self.random);
-        let want = if length < keys.len() {
-            ROOM
-        } else {
-            closed(mesh, &keys).into()
-        };
-        let buffer = Lent::garbage(length, &mut self.random);
-        self.rule.ask(self.probe, mesh, buffer, want, &keys);
-        see(&mut self.rule, want);
-        self.ask_csx(mesh);
-    }
-
-    fn ask_csx(&mut self, mesh: &Mesh) {
-        let mut lent = LentMesh::new(mesh);
-        let mut work = vec![0; mesh.corners.len()];
-        let got = (self.probe)(&mut lent.lend(), &mut work);
-        let faces: Vec<Vec<u32>> = mesh.faces().map(<[_]>::to_vec).collect();
-        let want = is_closed(&faces).into();
-        self.csx
-            .compare(Outcome::answered(got), want, || mesh.text());
-        see(&mut self.csx, want);
-    }
-
-    fn add_to(self, report: &mut Report, needed: &[&str]) {
-        self.rule.add_to(report, needed);
-        self.csx.add_to(report, &["closed", "open"]);
-    }
+fn ask_csx(asker: &mut Asker<Probe<u64>>, mesh: &Mesh) {
+    let mut work = vec![0; mesh.corners.len()];
+    let got = (asker.function)(&mut LentMesh::new(mesh).lend(), &mut work);
+    let faces: Vec<Vec<u32>> = mesh.faces().map(<[_]>::to_vec).collect();
+    let want = is_closed(&faces).into();
+    asker
+        .csx
+        .compare(Outcome::answered(got), want, || mesh.text());
+    see(&mut asker.csx, want);
 }
 
 fn see(line: &mut Line, want: u64) {
@@ -74,18 +61,18 @@ fn see(line: &mut Line, want: u64) {
 /// Compares small meshes: every mesh of no triangle, of one over three vertices,
 /// of two over four and of three over three, and random ones.
 pub fn compare(report: &mut Report, plan: &Plan, probe: Probe<u64>) {
-    let mut asker = Asker::new(probe, plan, "edge keys");
+    let mut asker = Asker::new(probe, plan, "edge keys", CSX);
     for (vertices, faces) in [(3, 0), (3, 1), (4, 2), (3, 3)] {
-        every_mesh(vertices, faces, &mut |mesh| asker.ask(mesh));
+        every_mesh(vertices, faces, &mut |mesh| ask(&mut asker, mesh));
     }
     for _ in 0..plan.times(250_000) {
         let mut mesh = inputs::mesh(&mut asker.random);
         if asker.random.below(16) == 0 {
             mesh.coords.push(0.0);
         }
-        asker.ask(&mesh);
+        ask(&mut asker, &mesh);
     }
-    asker.add_to(report, &["closed", "open", "refusal 1", "refusal 6"]);
+    asker.add_to(report, &NEEDED, &NEEDED[..2]);
 }
 
 /// Every mesh of so many triangles over so many vertices. Among them are no
@@ -108,28 +95,30 @@ fn every_mesh(vertices: u32, faces: u32, ask: &mut impl FnMut(&Mesh)) {
 /// Compares large meshes: keys in random order, in ascending and in descending
 /// order, and many that are equal.
 pub fn large(report: &mut Report, plan: &Plan, probe: Probe<u64>) {
-    let mut asker = Asker::new(probe, plan, "edge keys of large meshes");
+    let mut asker = Asker::new(probe, plan, "edge keys of large meshes", CSX);
     for _ in 0..plan.times(2) {
         for mut mesh in inputs::large(&mut asker.random) {
-            asker.ask(&mesh);
+            ask(&mut asker, &mesh);
             mesh.corners.sort_unstable();
-            asker.ask(&mesh);
+            ask(&mut asker, &mesh);
             mesh.corners.reverse();
-            asker.ask(&mesh);
+            ask(&mut asker, &mesh);
             mesh.corners.iter_mut().for_each(|v| *v %= 7);
-            asker.ask(&mesh);
+            ask(&mut asker, &mesh);
         }
         let grid = inputs::torus(256, 256, false);
-        asker.ask(&grid.mesh(Numbers::Few, &mut Random::new(1)));
+        ask(&mut asker, &grid.mesh(Numbers::Few, &mut Random::new(1)));
     }
-    asker.add_to(report, &["closed", "open"]);
+    asker.add_to(report, &NEEDED[..2], &NEEDED[..2]);
 }
 
 #[cfg(test)]
 mod tests {
     use super::super::expected::triangles;
+    use super::super::tests::writes;
     use super::*;
     use crate::engine::meshes::Mesh as Lists;
+    use crate::kinds::tests;
 
     /// An engine with these keys and this rule.
     fn by(
@@ -138,118 +127,83 @@ mod tests {
         keys: fn(&Mesh) -> Vec<u64>,
         closed: fn(&Mesh, &[u64]) -> bool,
     ) -> u64 {
-        let mesh = Mesh::of(lists);
-        if let Some(refusal) = refusal(&mesh) {
-            return refusal;
+        match writes(lists, work, keys) {
+            0 => closed(&Mesh::of(lists), &work[..lists.corners.len()]).into(),
+            refusal => refusal,
         }
-        let keys = keys(&mesh);
-        let Some(work) = work.get_mut(..keys.len()) else {
-            return ROOM;
-        };
-        work.copy_from_slice(&keys);
-        closed(&mesh, &keys).into()
+    }
+
+    /// An engine with these keys.
+    fn by_keys(lists: &Lists, work: &mut [u64], keys: fn(&Mesh) -> Vec<u64>) -> u64 {
+        by(lists, work, keys, closed)
+    }
+
+    /// An engine with this rule of closedness.
+    fn by_rule(lists: &Lists, work: &mut [u64], closed: fn(&Mesh, &[u64]) -> bool) -> u64 {
+        by(lists, work, edge_keys, closed)
+    }
+
+    fn right(lists: &mut Lists, work: &mut [u64]) -> u64 {
+        by(lists, work, edge_keys, closed)
     }
 
     fn fails(probe: Probe<u64>) -> bool {
-        let mut report = Report::new();
-        compare(&mut report, &Plan::tiny(), probe);
-        report.failed()
+        tests::fails(|report, plan| compare(report, plan, probe))
     }
 
     #[test]
     fn the_right_keys_pass() {
-        let right: Probe<u64> = |lists, work| by(lists, work, edge_keys, closed);
         assert!(!fails(right));
-        let mut report = Report::new();
-        large(&mut report, &Plan::tiny(), right);
-        assert!(!report.failed());
+        assert!(!tests::fails(|report, plan| large(report, plan, right)));
     }
 
     #[test]
     fn wrong_rules_of_closedness_are_caught() {
         // no faces
-        assert!(fails(|lists, work| by(
-            lists,
-            work,
-            edge_keys,
-            |mesh, keys| { mesh.ends.is_empty() || closed(mesh, keys) }
-        )));
+        assert!(fails(|lists, work| by_rule(lists, work, |mesh, keys| {
+            mesh.ends.is_empty() || closed(mesh, keys)
+        })));
         // at most twice
-        assert!(fails(|lists, work| by(
-            lists,
-            work,
-            edge_keys,
-            |mesh, keys| {
-                let mut groups = keys.chunk_by(|a, b| a == b);
-                !mesh.ends.is_empty() && groups.all(|same| same.len() <= 2)
-            }
-        )));
+        assert!(fails(|lists, work| by_rule(lists, work, |mesh, keys| {
+            let mut groups = keys.chunk_by(|a, b| a == b);
+            !mesh.ends.is_empty() && groups.all(|same| same.len() <= 2)
+        })));
         // an even number of times
-        assert!(fails(|lists, work| by(
-            lists,
-            work,
-            edge_keys,
-            |mesh, keys| {
-                let mut groups = keys.chunk_by(|a, b| a == b);
-                !mesh.ends.is_empty() && groups.all(|same| same.len() % 2 == 0)
-            }
-        )));
+        assert!(fails(|lists, work| by_rule(lists, work, |mesh, keys| {
+            let mut groups = keys.chunk_by(|a, b| a == b);
+            !mesh.ends.is_empty() && groups.all(|same| same.len() % 2 == 0)
+        })));
         // edges from a vertex to itself left out
-        assert!(fails(|lists, work| by(
-            lists,
-            work,
-            edge_keys,
-            |mesh, keys| {
-                let mut keys = keys.to_vec();
-                keys.retain(|key| key / 65_536 != key % 65_536);
-                closed(mesh, &keys)
-            }
-        )));
+        assert!(fails(|lists, work| by_rule(lists, work, |mesh, keys| {
+            let mut keys = keys.to_vec();
+            keys.retain(|key| key / 65_536 != key % 65_536);
+            closed(mesh, &keys)
+        })));
     }
 
     #[test]
     fn wrong_keys_are_caught() {
         // not in order
-        assert!(fails(|lists, work| by(
-            lists,
-            work,
-            |mesh| {
-                let mut keys = edge_keys(mesh);
-                keys.reverse();
-                keys
-            },
-            closed
-        )));
+        assert!(fails(|lists, work| by_keys(lists, work, |mesh| {
+            let mut keys = edge_keys(mesh);
+            keys.reverse();
+            keys
+        })));
         // the larger vertex first
-        assert!(fails(|lists, work| by(
-            lists,
-            work,
-            |mesh| {
-                let mut keys = edge_keys(mesh);
-                keys.iter_mut()
-                    .for_each(|k| *k = (*k as u32).rotate_left(16).into());
-                keys.sort_unstable();
-                keys
-            },
-            closed
-        )));
+        assert!(fails(|lists, work| by_keys(lists, work, |mesh| {
+            let mut keys = edge_keys(mesh);
+            keys.iter_mut()
+                .for_each(|k| *k = (*k as u32).rotate_left(16).into());
+            keys.sort_unstable();
+            keys
+        })));
         // of the triangles
-        assert!(fails(|lists, work| by(
-            lists,
-            work,
-            |mesh| {
-                let mut split = mesh.clone();
-                (split.corners, split.ends) = Default::default();
-                for triangle in triangles(mesh) {
-                    split.push_face(triangle);
-                }
-                edge_keys(&split)
-            },
-            closed
-        )));
+        assert!(fails(|lists, work| by_keys(lists, work, |mesh| {
+            edge_keys(&mesh.with_faces(triangles(mesh)))
+        })));
         // the rest of the buffer written
         assert!(fails(|lists, work| {
-            let answer = by(lists, work, edge_keys, closed);
+            let answer = right(lists, work);
             if answer <= 1 {
                 work[lists.corners.len()..].fill(0);
             }
@@ -257,7 +211,7 @@ mod tests {
         }));
         // a short buffer filled
         assert!(fails(|lists, work| {
-            let answer = by(lists, work, edge_keys, closed);
+            let answer = right(lists, work);
             if answer == ROOM {
                 work.fill(0);
             }

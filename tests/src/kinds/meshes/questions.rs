@@ -5,14 +5,13 @@ use csx::Error;
 
 use super::expected::{CORNERS, FACES, VERTICES, code, lengths, refusal};
 use super::inputs::{self, Numbers, pick, some_of, torus};
-use super::lent::Lent;
-use super::{LentMesh, Line, Mesh, Outcome, Probe, ROOM, buffer_length};
+use super::{Asker, Lent, LentMesh, Mesh, Outcome, Probe, ROOM, buffer_length};
 use crate::engine::REFUSAL;
 use crate::plan::Plan;
 use crate::random::{NOT_FINITE, Random};
 use crate::report::Report;
 
-/// What every line has to see.
+/// What the line of the rule has to see.
 const NEEDED: [&str; 7] = [
     "accepted",
     "refusal 1",
@@ -23,66 +22,53 @@ const NEEDED: [&str; 7] = [
     "refusal 6",
 ];
 
-/// The function under test, and the lines that it is compared in.
-struct Asker {
-    probe: Probe<u64>,
-    rule: Line,
-    csx: Line,
-    random: Random,
+/// What the line of csx has to see.
+const NEEDED_OF_CSX: [&str; 4] = ["accepted", "refusal 3", "refusal 4", "refusal 5"];
+
+/// What csx is asked.
+const CSX: &str = "3 to 5 by csx";
+
+/// Asks about a mesh, with a buffer for the counts that may be too short.
+fn ask(asker: &mut Asker<Probe<u64>>, mesh: &Mesh) {
+    let length = buffer_length(3, &mut asker.random);
+    let want = match refusal(mesh) {
+        Some(refusal) => refusal,
+        None if length < 3 => ROOM,
+        None => 0,
+    };
+    let buffer = Lent::garbage(length, &mut asker.random);
+    asker
+        .rule
+        .ask(asker.function, mesh, buffer, want, &counts(mesh));
+    if want == 0 {
+        asker.rule.see("accepted");
+    }
+    if lengths(mesh).is_none() {
+        ask_csx(asker, mesh);
+    }
 }
 
-impl Asker {
-    fn new(probe: Probe<u64>, plan: &Plan, name: &str) -> Self {
-        Self {
-            probe,
-            rule: Line::new(format!("{name}, document 01")),
-            csx: Line::new(format!("{name}, 3 to 5 by csx")),
-            random: plan.random(name),
-        }
-    }
+/// The vertices, faces and triangles.
+fn counts(mesh: &Mesh) -> [u64; 3] {
+    [
+        mesh.vertex_count(),
+        mesh.ends.len(),
+        mesh.corners.len().saturating_sub(2 * mesh.ends.len()),
+    ]
+    .map(|n| n as u64)
+}
 
-    /// Asks about a mesh, with a buffer for the counts that may be too short.
-    fn ask(&mut self, mesh: &Mesh) {
-        let length = buffer_length(3, &mut self.random);
-        let want = match refusal(mesh) {
-            Some(refusal) => refusal,
-            None if length < 3 => ROOM,
-            None => 0,
-        };
-        let counts = [
-            mesh.vertex_count(),
-            mesh.ends.len(),
-            mesh.corners.len().saturating_sub(2 * mesh.ends.len()),
-        ];
-        let buffer = Lent::garbage(length, &mut self.random);
-        let written = counts.map(|n| n as u64);
-        self.rule.ask(self.probe, mesh, buffer, want, &written);
-        if want == 0 {
-            self.rule.see("accepted");
-        }
-        if lengths(mesh).is_none() {
-            self.ask_csx(mesh);
-        }
-    }
-
-    /// Asks about a mesh that questions 1 and 2 let pass.
-    fn ask_csx(&mut self, mesh: &Mesh) {
-        let mut lent = LentMesh::new(mesh);
-        let got = (self.probe)(&mut lent.lend(), &mut [0; 3]);
-        // csx says which vertex is not finite by its coordinates alone.
-        let got = if got / REFUSAL == 5 { code(5, 0) } else { got };
-        let want = csx_answer(mesh);
-        self.csx
-            .compare(Outcome::answered(got), want, || mesh.text());
-        if want == 0 {
-            self.csx.see("accepted");
-        }
-    }
-
-    fn add_to(self, report: &mut Report) {
-        self.rule.add_to(report, &NEEDED);
-        self.csx
-            .add_to(report, &["accepted", "refusal 3", "refusal 4", "refusal 5"]);
+/// Asks about a mesh that questions 1 and 2 let pass.
+fn ask_csx(asker: &mut Asker<Probe<u64>>, mesh: &Mesh) {
+    let got = (asker.function)(&mut LentMesh::new(mesh).lend(), &mut [0; 3]);
+    // csx says which vertex is not finite by its coordinates alone.
+    let got = if got / REFUSAL == 5 { code(5, 0) } else { got };
+    let want = csx_answer(mesh);
+    asker
+        .csx
+        .compare(Outcome::answered(got), want, || mesh.text());
+    if want == 0 {
+        asker.csx.see("accepted");
     }
 }
 
@@ -108,8 +94,8 @@ fn csx_answer(mesh: &Mesh) -> u64 {
 /// Compares small meshes: with lists of any few lengths, without a fault, and
 /// with each fault and each set of them.
 pub fn compare(report: &mut Report, plan: &Plan, probe: Probe<u64>) {
-    let mut asker = Asker::new(probe, plan, "questions");
-    every_length(&mut asker);
+    let mut asker = Asker::new(probe, plan, "questions", CSX);
+    every_length(&mut |mesh| ask(&mut asker, mesh));
     for _ in 0..plan.times(400_000) {
         let random = &mut asker.random;
         let mut mesh = inputs::mesh(random);
@@ -119,19 +105,19 @@ pub fn compare(report: &mut Report, plan: &Plan, probe: Probe<u64>) {
                 spoil(&mut mesh, question, random);
             }
         }
-        asker.ask(&mesh);
+        ask(&mut asker, &mesh);
     }
-    asker.add_to(report);
+    asker.add_to(report, &NEEDED, &NEEDED_OF_CSX);
 }
 
 /// Up to 3 faces with ends up to 7, up to 7 corners and up to 7 coordinates.
-fn every_length(asker: &mut Asker) {
+fn every_length(ask: &mut impl FnMut(&Mesh)) {
     for faces in 0..4 {
         for ends in 0..8usize.pow(faces) {
             let ends: Vec<u32> = (0..faces).map(|f| (ends >> (3 * f) & 7) as u32).collect();
             for corners in 0..8 {
                 for coords in [0, 1, 2, 3, 6, 7] {
-                    asker.ask(&Mesh {
+                    ask(&Mesh {
                         coords: vec![0.0; coords],
                         corners: vec![0; corners],
                         ends: ends.clone(),
@@ -197,14 +183,11 @@ fn spoil_ends(mesh: &mut Mesh, random: &mut Random) {
 
 /// Compares meshes at the limits of questions 1 and 2 and past them.
 pub fn limits(report: &mut Report, plan: &Plan, probe: Probe<u64>) {
-    let mut asker = Asker::new(probe, plan, "questions, limits");
+    let mut asker = Asker::new(probe, plan, "questions, limits", CSX);
     for mesh in limit_meshes(&mut asker.random) {
-        asker.ask(&mesh);
+        ask(&mut asker, &mesh);
     }
-    asker.rule.add_to(report, &NEEDED[..6]);
-    asker
-        .csx
-        .add_to(report, &["accepted", "refusal 3", "refusal 4", "refusal 5"]);
+    asker.add_to(report, &NEEDED[..6], &NEEDED_OF_CSX);
 }
 
 /// Meshes with as many vertices, faces and corners as are accepted and with one
@@ -278,6 +261,7 @@ fn limit_meshes(random: &mut Random) -> Vec<Mesh> {
 mod tests {
     use super::*;
     use crate::engine::meshes::Mesh as Lists;
+    use crate::kinds::tests;
 
     /// An engine with these questions.
     fn by(lists: &Lists, counts: &mut [u64], refusal: fn(&Mesh) -> Option<u64>) -> u64 {
@@ -288,9 +272,7 @@ mod tests {
         if counts.len() < 3 {
             return ROOM;
         }
-        counts[0] = mesh.vertex_count() as u64;
-        counts[1] = mesh.ends.len() as u64;
-        counts[2] = mesh.corners.len().saturating_sub(2 * mesh.ends.len()) as u64;
+        counts[..3].copy_from_slice(&super::counts(&mesh));
         0
     }
 
@@ -299,21 +281,17 @@ mod tests {
     }
 
     fn fails(probe: Probe<u64>) -> bool {
-        let mut report = Report::new();
-        compare(&mut report, &Plan::tiny(), probe);
-        report.failed()
+        tests::fails(|report, plan| compare(report, plan, probe))
     }
 
-    fn fails_at_the_limits(probe: Probe<u64>) -> bool {
-        let mut report = Report::new();
-        limits(&mut report, &Plan::tiny(), probe);
-        report.failed()
+    fn limits_fail(probe: Probe<u64>) -> bool {
+        tests::fails(|report, plan| limits(report, plan, probe))
     }
 
     #[test]
     fn the_right_questions_pass() {
         assert!(!fails(right));
-        assert!(!fails_at_the_limits(right));
+        assert!(!limits_fail(right));
     }
 
     #[test]
@@ -415,38 +393,26 @@ mod tests {
     #[test]
     fn wrong_limits_are_caught() {
         // a limit that is one off
-        assert!(fails_at_the_limits(|lists, counts| by(
-            lists,
-            counts,
-            |mesh| {
-                if mesh.vertex_count() >= VERTICES {
-                    return Some(code(1, 0));
-                }
-                refusal(mesh)
+        assert!(limits_fail(|lists, counts| by(lists, counts, |mesh| {
+            match mesh.vertex_count() {
+                VERTICES.. => Some(code(1, 0)),
+                _ => refusal(mesh),
             }
-        )));
-        assert!(fails_at_the_limits(|lists, counts| by(
-            lists,
-            counts,
-            |mesh| {
-                if mesh.corners.len() >= CORNERS {
-                    return Some(code(2, 0));
-                }
-                refusal(mesh)
+        })));
+        assert!(limits_fail(|lists, counts| by(lists, counts, |mesh| {
+            match mesh.corners.len() {
+                CORNERS.. => Some(code(2, 0)),
+                _ => refusal(mesh),
             }
-        )));
+        })));
         // no limit of faces
-        assert!(fails_at_the_limits(|lists, counts| by(
-            lists,
-            counts,
-            |mesh| {
-                let mut fewer = mesh.clone();
-                fewer.ends.truncate(FACES);
-                if fewer.ends.last() == mesh.ends.last() {
-                    return refusal(&fewer);
-                }
-                refusal(mesh)
+        assert!(limits_fail(|lists, counts| by(lists, counts, |mesh| {
+            let mut fewer = mesh.clone();
+            fewer.ends.truncate(FACES);
+            if fewer.ends.last() == mesh.ends.last() {
+                return refusal(&fewer);
             }
-        )));
+            refusal(mesh)
+        })));
     }
 }

@@ -2,8 +2,7 @@
 
 use super::expected::refusal;
 use super::inputs;
-use super::lent::Lent;
-use super::{Line, Mesh, Probe, ROOM, buffer_length};
+use super::{Lent, Line, Mesh, Probe, ROOM, buffer_length};
 use crate::plan::Plan;
 use crate::random::Random;
 use crate::report::Report;
@@ -75,51 +74,41 @@ fn sides(mesh: &Mesh) -> &'static str {
 
 #[cfg(test)]
 mod tests {
-    use super::super::{expected, inputs::pick};
+    use super::super::{expected, inputs::pick, tests::writes};
     use super::*;
     use crate::engine::meshes::Mesh as Lists;
+    use crate::kinds::tests;
 
     /// An engine that has these triangles.
     fn by(lists: &Lists, out: &mut [u32], triangles: fn(&Mesh) -> Vec<[u32; 3]>) -> u64 {
-        let mesh = Mesh::of(lists);
-        if let Some(refusal) = refusal(&mesh) {
-            return refusal;
-        }
-        let triangles = triangles(&mesh);
-        let Some(out) = out.get_mut(..3 * triangles.len()) else {
-            return ROOM;
-        };
-        out.copy_from_slice(triangles.as_flattened());
-        0
+        writes(lists, out, |mesh| triangles(mesh).into_flattened())
     }
 
     fn fails(probe: Probe<u32>) -> bool {
-        let mut report = Report::new();
-        compare(&mut report, &Plan::tiny(), probe);
-        report.failed()
+        tests::fails(|report, plan| compare(report, plan, probe))
+    }
+
+    fn large_fails(probe: Probe<u32>) -> bool {
+        tests::fails(|report, plan| large(report, plan, probe))
     }
 
     #[test]
     fn the_right_triangles_pass() {
         let right: Probe<u32> = |lists, out| by(lists, out, expected::triangles);
         assert!(!fails(right));
-        let mut report = Report::new();
-        large(&mut report, &Plan::tiny(), right);
-        assert!(!report.failed());
+        assert!(!large_fails(right));
     }
 
     #[test]
     fn wrong_triangles_are_caught() {
         // fans from the last corner
         assert!(fails(|lists, out| by(lists, out, |mesh| {
-            let mut turned = mesh.clone();
-            (turned.corners, turned.ends) = Default::default();
-            for face in mesh.faces() {
+            let turned = mesh.faces().map(|face| {
                 let mut face = face.to_vec();
                 face.rotate_right(1);
-                turned.push_face(face);
-            }
-            expected::triangles(&turned)
+                face
+            });
+            expected::triangles(&mesh.with_faces(turned))
         })));
         // strips for fans
         assert!(fails(|lists, out| by(lists, out, |mesh| {
@@ -152,15 +141,11 @@ mod tests {
 
     #[test]
     fn a_wrong_triangle_of_a_large_mesh_is_caught() {
-        let mut report = Report::new();
-        large(&mut report, &Plan::tiny(), |lists, out| {
-            by(lists, out, |mesh| {
-                let mut found = expected::triangles(mesh);
-                let t = pick(found.len(), &mut Random::new(1));
-                found[t][0] ^= 1;
-                found
-            })
-        });
-        assert!(report.failed());
+        assert!(large_fails(|lists, out| by(lists, out, |mesh| {
+            let mut found = expected::triangles(mesh);
+            let t = pick(found.len(), &mut Random::new(1));
+            found[t][0] ^= 1;
+            found
+        })));
     }
 }

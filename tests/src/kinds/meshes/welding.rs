@@ -5,8 +5,7 @@ use csx::{Polyhedron, Vec3};
 
 use super::expected::{self, code};
 use super::inputs::{Numbers, closed, on_torus, pick, some_of, torus};
-use super::lent::Lent;
-use super::{LentMesh, Line, Mesh, Outcome, ROOM, cut};
+use super::{Asker, Lent, LentMesh, Line, Mesh, Outcome, ROOM, cut};
 use crate::engine::meshes::Welded;
 use crate::engine::{Point, REFUSAL};
 use crate::plan::Plan;
@@ -138,89 +137,68 @@ impl Left {
     }
 }
 
-/// The function under test, and the lines that it is compared in.
-struct Asker {
-    weld: Weld,
-    rule: Line,
-    csx: Line,
-    random: Random,
-}
-
-impl Asker {
-    fn new(weld: Weld, plan: &Plan, name: &str) -> Self {
-        Self {
-            weld,
-            rule: Line::new(format!("{name}, document 01")),
-            csx: Line::new(format!("{name}, csx")),
-            random: plan.random(name),
-        }
-    }
-
-    /// Welds a list into buffers of these lengths.
-    fn ask(&mut self, triangles: &[f64], room: Room) {
-        let left = self.weld(triangles, room);
-        let refusal = refusal(triangles, room);
-        let want = refusal.unwrap_or(0);
-        let written = refusal.is_none().then(|| by_rule(triangles));
-        self.rule.compare(left.outcome(written.as_ref()), want, || {
+/// Welds a list into buffers of these lengths.
+fn ask(asker: &mut Asker<Weld>, triangles: &[f64], room: Room) {
+    let left = weld(asker, triangles, room);
+    let refusal = refusal(triangles, room);
+    let want = refusal.unwrap_or(0);
+    let written = refusal.is_none().then(|| by_rule(triangles));
+    asker
+        .rule
+        .compare(left.outcome(written.as_ref()), want, || {
             text(triangles, room)
         });
-        if let Some(mesh) = written {
-            see(&mut self.rule, triangles, &mesh);
-        }
-        self.compare_csx(triangles, room, &left);
+    if let Some(mesh) = written {
+        see(&mut asker.rule, triangles, &mesh);
     }
+    compare_csx(asker, triangles, room, &left);
+}
 
-    /// The same for a long list, with csx alone, which does not search.
-    fn ask_long(&mut self, triangles: &[f64], room: Room) {
-        let left = self.weld(triangles, room);
-        if let Some(want) = refusal(triangles, room) {
-            let outcome = left.outcome(None);
-            self.rule.compare(outcome, want, || text(triangles, room));
-        }
-        self.compare_csx(triangles, room, &left);
+/// The same for a long list, with csx alone, which does not search.
+fn ask_long(asker: &mut Asker<Weld>, triangles: &[f64], room: Room) {
+    let left = weld(asker, triangles, room);
+    if let Some(want) = refusal(triangles, room) {
+        let outcome = left.outcome(None);
+        asker.rule.compare(outcome, want, || text(triangles, room));
     }
+    compare_csx(asker, triangles, room, &left);
+}
 
-    fn weld(&mut self, triangles: &[f64], room: Room) -> Left {
-        let mut left = Left {
-            triangles: Lent::new(triangles),
-            mesh: LentMesh {
-                coords: Lent::garbage(room.coords, &mut self.random),
-                corners: Lent::garbage(room.corners, &mut self.random),
-                ends: Lent::garbage(room.ends, &mut self.random),
-            },
-            sizes: Lent::garbage(room.sizes, &mut self.random),
-            answer: 0,
-        };
-        let mut buffers = Welded {
-            mesh: left.mesh.lend(),
-            sizes: left.sizes.list(),
-        };
-        left.answer = (self.weld)(left.triangles.list(), &mut buffers);
-        left
+fn weld(asker: &mut Asker<Weld>, triangles: &[f64], room: Room) -> Left {
+    let random = &mut asker.random;
+    let mut left = Left {
+        triangles: Lent::new(triangles),
+        mesh: LentMesh {
+            coords: Lent::garbage(room.coords, random),
+            corners: Lent::garbage(room.corners, random),
+            ends: Lent::garbage(room.ends, random),
+        },
+        sizes: Lent::garbage(room.sizes, random),
+        answer: 0,
+    };
+    let mut buffers = Welded {
+        mesh: left.mesh.lend(),
+        sizes: left.sizes.list(),
+    };
+    left.answer = (asker.function)(left.triangles.list(), &mut buffers);
+    left
+}
+
+/// csx refuses numbers that are not finite, and nothing else. It says which
+/// corner that is by its coordinates alone.
+fn compare_csx(asker: &mut Asker<Weld>, triangles: &[f64], room: Room, left: &Left) {
+    if !matches!(refusal(triangles, room), None | Some(5_000_000..6_000_000)) {
+        return;
     }
-
-    /// csx refuses numbers that are not finite, and nothing else. It says which
-    /// corner that is by its coordinates alone.
-    fn compare_csx(&mut self, triangles: &[f64], room: Room, left: &Left) {
-        if !matches!(refusal(triangles, room), None | Some(5_000_000..6_000_000)) {
-            return;
-        }
-        let csx = by_csx(triangles);
-        let want = if csx.is_some() { 0 } else { code(5, 0) };
-        let mut outcome = left.outcome(csx.as_ref());
-        if outcome.answer / REFUSAL == 5 {
-            outcome.answer = code(5, 0);
-        }
-        self.csx.compare(outcome, want, || text(triangles, room));
-        if let Some(mesh) = csx {
-            see(&mut self.csx, triangles, &mesh);
-        }
+    let csx = by_csx(triangles);
+    let want = if csx.is_some() { 0 } else { code(5, 0) };
+    let mut outcome = left.outcome(csx.as_ref());
+    if outcome.answer / REFUSAL == 5 {
+        outcome.answer = code(5, 0);
     }
-
-    fn add_to(self, report: &mut Report) {
-        self.rule.add_to(report, &NEEDED);
-        self.csx.add_to(report, &NEEDED[..5]);
+    asker.csx.compare(outcome, want, || text(triangles, room));
+    if let Some(mesh) = csx {
+        see(&mut asker.csx, triangles, &mesh);
     }
 }
 
@@ -261,7 +239,7 @@ fn text(triangles: &[f64], room: Room) -> String {
 /// Compares short lists, without a fault and with each and each set of them, and
 /// each number of a list in turn not finite.
 pub fn compare(report: &mut Report, plan: &Plan, weld: Weld) {
-    let mut asker = Asker::new(weld, plan, "welding");
+    let mut asker = Asker::new(weld, plan, "welding", "csx");
     for _ in 0..plan.times(400_000) {
         let random = &mut asker.random;
         let mut list = triangles(random);
@@ -279,7 +257,7 @@ pub fn compare(report: &mut Report, plan: &Plan, weld: Weld) {
         if short {
             shorten(&mut room, list.len(), random);
         }
-        asker.ask(&list, room);
+        ask(&mut asker, &list, room);
     }
     for count in 1..4 {
         let list: Vec<f64> = (0..9 * count).map(f64::from).collect();
@@ -287,11 +265,11 @@ pub fn compare(report: &mut Report, plan: &Plan, weld: Weld) {
             for x in NOT_FINITE {
                 let mut list = list.clone();
                 list[place] = x;
-                asker.ask(&list, Room::needed(list.len()));
+                ask(&mut asker, &list, Room::needed(list.len()));
             }
         }
     }
-    asker.add_to(report);
+    asker.add_to(report, &NEEDED, &NEEDED[..5]);
 }
 
 /// One number of the list not finite.
@@ -374,18 +352,18 @@ pub fn apart_triangles(random: &mut Random) -> Vec<f64> {
 
 /// Compares lists as long as are accepted, and longer ones.
 pub fn limits(report: &mut Report, plan: &Plan, weld: Weld) {
-    let mut asker = Asker::new(weld, plan, "welding, limits");
+    let mut asker = Asker::new(weld, plan, "welding, limits", "csx");
     let most = 9 * TRIANGLES;
     let room = Room::needed(most);
     let apart = apart_triangles(&mut asker.random);
     for _ in 0..plan.times(1) {
-        asker.ask_long(&apart, room);
-        asker.ask_long(&torus_triangles(), room);
+        ask_long(&mut asker, &apart, room);
+        ask_long(&mut asker, &torus_triangles(), room);
         let mut pool: Vec<Point> = Vec::new();
         pool.resize_with(100, || Numbers::Few.point(&mut asker.random));
         let corner = |_| pool[pick(pool.len(), &mut asker.random)];
         let few: Vec<f64> = (0..3 * TRIANGLES).flat_map(corner).collect();
-        asker.ask_long(&few, room);
+        ask_long(&mut asker, &few, room);
     }
     let mut widest = Room::needed(most + 18);
     for length in widest.lengths_mut() {
@@ -395,30 +373,30 @@ pub fn limits(report: &mut Report, plan: &Plan, weld: Weld) {
     for more in [1, 8, 9, 10, 18] {
         let mut list = apart.clone();
         list.resize(most + more, 0.5);
-        asker.ask_long(&list, widest);
-        asker.ask_long(&list, Room::needed(0));
+        ask_long(&mut asker, &list, widest);
+        ask_long(&mut asker, &list, Room::needed(0));
         list[0] = f64::NAN;
-        asker.ask_long(&list, widest);
+        ask_long(&mut asker, &list, widest);
     }
-    asker.ask_long(&apart[..most - 1], widest);
+    ask_long(&mut asker, &apart[..most - 1], widest);
     // the last number not finite, also with no room at all
     let mut list = apart.clone();
     list[most - 1] = f64::INFINITY;
-    asker.ask_long(&list, widest);
-    asker.ask_long(&list, Room::needed(0));
+    ask_long(&mut asker, &list, widest);
+    ask_long(&mut asker, &list, Room::needed(0));
     // each buffer one short
     for i in 0..4 {
         let mut room = room;
         *room.lengths_mut()[i] -= 1;
-        asker.ask_long(&apart, room);
+        ask_long(&mut asker, &apart, room);
     }
-    asker.rule.add_to(report, &NEEDED[4..]);
-    asker.csx.add_to(report, &["welded", "a triangle dropped"]);
+    asker.add_to(report, &NEEDED[4..], &["welded", "a triangle dropped"]);
 }
 
 #[cfg(test)]
 mod tests {
     use super::*;
+    use crate::kinds::tests;
 
     fn room_of(welded: &Welded) -> Room {
         Room {
@@ -456,9 +434,7 @@ mod tests {
     }
 
     fn fails(weld: Weld) -> bool {
-        let mut report = Report::new();
-        compare(&mut report, &Plan::tiny(), weld);
-        report.failed()
+        tests::fails(|report, plan| compare(report, plan, weld))
     }
 
     /// The welded mesh of equal vertices and of faces as these say.
@@ -668,11 +644,7 @@ mod tests {
                 (refusal, _) => refusal.unwrap_or(code(5, 0)),
             }
         }
-        let fails = |weld: Weld| {
-            let mut report = Report::new();
-            limits(&mut report, &Plan::tiny(), weld);
-            report.failed()
-        };
+        let fails = |weld: Weld| tests::fails(|report, plan| limits(report, plan, weld));
         assert!(!fails(|list, welded| by_limit(list, welded, TRIANGLES)));
         assert!(fails(|list, welded| by_limit(list, welded, TRIANGLES - 1)));
         assert!(fails(|list, welded| by_limit(list, welded, TRIANGLES + 1)));

@@ -82,11 +82,10 @@ mod tests {
     use crate::engine;
     use crate::kinds::shapes::expected::Csx;
     use crate::kinds::shapes::tests::right;
+    use crate::kinds::tests;
 
     fn fails(engine: Engine) -> bool {
-        let mut report = Report::new();
-        compare(&mut report, &Plan::tiny(), engine);
-        report.failed()
+        tests::fails(|report, plan| compare(report, plan, engine))
     }
 
     #[test]

@@ -77,11 +77,10 @@ mod tests {
     use super::*;
     use crate::engine;
     use crate::kinds::shapes::tests::right;
+    use crate::kinds::tests;
 
     fn fails(engine: Engine) -> bool {
-        let mut report = Report::new();
-        compare(&mut report, engine);
-        report.failed()
+        tests::fails(|report, _| compare(report, engine))
     }
 
     #[test]

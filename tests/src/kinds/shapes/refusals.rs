@@ -148,19 +148,16 @@ mod tests {
     use crate::engine::{self, Point, Shape};
     use crate::kinds::shapes::OUTSIDE;
     use crate::kinds::shapes::tests::{form, right};
+    use crate::kinds::tests;
 
     fn fails(engine: Engine) -> bool {
-        let mut report = Report::new();
-        compare(&mut report, &Plan::tiny(), engine);
-        report.failed()
+        tests::fails(|report, plan| compare(report, plan, engine))
     }
 
     /// Whether the refusals of a shape find a fault.
     fn caught(name: &str, engine: Engine) -> bool {
-        let mut report = Report::new();
         let mut asker = Asker::new(engine, "");
-        form_refusals(&mut report, &Plan::tiny(), form(name), &mut asker);
-        report.failed()
+        tests::fails(|report, plan| form_refusals(report, plan, form(name), &mut asker))
     }
 
     fn finite(numbers: &[f64]) -> bool {

@@ -9,15 +9,14 @@ use csx::primitives::geom::{angle_ok, dist_point_segment, in_range, tol};
 use super::tests::{form, right};
 use super::{Asker, Engine, FORMS, INSIDE, OUTSIDE, cases};
 use crate::engine::{Point, Shape};
+use crate::kinds::tests::fails;
 use crate::plan::{DEFAULT_SEED, Plan};
-use crate::report::Report;
 
 /// Whether the cases of a shape find a fault.
 fn caught(name: &str, engine: Engine) -> bool {
-    let mut report = Report::new();
     let plan = Plan::quick(DEFAULT_SEED).part(100);
-    cases::form_cases(&mut report, &plan, form(name), &mut Asker::new(engine, ""));
-    report.failed()
+    let mut asker = Asker::new(engine, "");
+    fails(|report, _| cases::form_cases(report, &plan, form(name), &mut asker))
 }
 
 /// The answer of another rule where nothing is refused.

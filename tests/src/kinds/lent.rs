@@ -1,6 +1,6 @@
 //! Lists that are lent to the engine, and what it left in them.
 
-use std::fmt;
+use std::fmt::{self, Debug};
 
 use crate::random::Random;
 
@@ -91,8 +91,9 @@ impl<T: Element> Lent<T> {
         &mut self.buffer[GUARDS..end]
     }
 
-    pub fn length(&self) -> usize {
-        self.buffer.len() - 2 * GUARDS
+    /// The list as it was lent.
+    pub fn before(&self) -> &[T] {
+        &self.before[GUARDS..self.before.len() - GUARDS]
     }
 
     /// The first place that does not hold what was to be written there, or was
@@ -116,6 +117,20 @@ impl<T: Element> Lent<T> {
             got: self.buffer[place].bits(),
             want,
         })
+    }
+}
+
+/// How many elements of a list are printed.
+const PRINTED: usize = 24;
+
+/// The first elements of a list, and how long it is if there are more. The digits
+/// of each float tell it from every other.
+pub fn cut<T: Debug>(list: &[T]) -> String {
+    match list.get(..PRINTED) {
+        Some(shown) if shown.len() < list.len() => {
+            format!("{shown:?} and on to {} elements", list.len())
+        }
+        _ => format!("{list:?}"),
     }
 }
 
@@ -148,7 +163,7 @@ mod tests {
     #[test]
     fn a_change_of_the_front_and_of_the_rest_is_seen() {
         let mut lent = Lent::new(&[1.0, f64::NAN, 3.0]);
-        assert_eq!(lent.length(), 3);
+        assert_eq!(lent.before().len(), 3);
         assert!(lent.wrong("list", &[]).is_none());
         assert!(lent.wrong("list", &[2.0]).is_some());
         lent.list()[0] = 2.0;
@@ -158,6 +173,20 @@ mod tests {
         lent.list()[1] = other;
         let wrong = lent.wrong("list", &[2.0]).expect("other bits");
         assert!(wrong.to_string().starts_with("list[1] is FFF8"));
+    }
+
+    #[test]
+    fn a_change_of_the_sign_of_a_zero_is_seen() {
+        let mut lent = Lent::new(&[1.0, 0.0]);
+        lent.list()[1] = -0.0;
+        assert!(lent.wrong("list", &[]).is_some());
+    }
+
+    #[test]
+    fn long_lists_are_cut() {
+        assert_eq!(cut(&[1; 3]), "[1, 1, 1]");
+        assert!(cut(&[1; 24]).ends_with("1, 1]"));
+        assert!(cut(&[1; 25]).ends_with("1] and on to 25 elements"));
     }
 
     #[test]
