@@ -18,7 +18,8 @@ const ROUNDS: usize = 100;
 /// The same of welding, which takes long.
 const WELDING_ROUNDS: usize = 5;
 
-/// Prints the times, and answers whether all answers agree.
+/// Prints the times, and answers whether all answers agree and no time is too
+/// long.
 pub fn run() -> bool {
     let mut random = Random::new(754);
     println!(
@@ -44,7 +45,8 @@ pub fn run() -> bool {
     !prepared.contains(&false) && !welded.contains(&false)
 }
 
-/// Times the call beside csx's test of closedness alone, on the same faces.
+/// Times the call beside csx's test of closedness alone, on the same faces. It is
+/// to take no longer.
 fn prepare(name: &str, mut mesh: Mesh) -> bool {
     let faces: Vec<Vec<u32>> = mesh.faces().map(<[_]>::to_vec).collect();
     let mut work = vec![0; mesh.corners.len()];
@@ -64,7 +66,7 @@ fn prepare(name: &str, mut mesh: Mesh) -> bool {
         ],
     );
     print_row(name, engine, "csx's is_closed alone", csx);
-    agree(closed == u64::from(closed_by_csx))
+    agree(closed == u64::from(closed_by_csx)) && in_time(engine <= csx)
 }
 
 /// Times welding beside csx's, which also tests closedness and builds its tree.
@@ -113,4 +115,11 @@ fn agree(agree: bool) -> bool {
         println!("  the answers differ");
     }
     agree
+}
+
+fn in_time(in_time: bool) -> bool {
+    if !in_time {
+        println!("  the engine takes too long");
+    }
+    in_time
 }
