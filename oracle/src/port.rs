@@ -1,6 +1,8 @@
 //! What the feature `port` changes. Lines of csx's files marked
-//! `// oracle: zeros` call these functions. Without the feature they are
-//! `f64::min` and `f64::max`, which csx calls in those places.
+//! `// oracle: zeros` or `// oracle: order` call these functions. Without the
+//! feature they do what csx does in those places.
+
+use std::cmp::Ordering;
 
 /// Minimum. With the feature: of two equal numbers the left one, of a NaN
 /// and a number the number.
@@ -22,4 +24,25 @@ pub fn max(a: f64, b: f64) -> f64 {
     } else {
         a.max(b)
     }
+}
+
+/// Which of two items with equal centres comes first. With the feature: the one
+/// with the lower number. Without it neither does.
+#[inline]
+pub fn order(a: u32, b: u32) -> Ordering {
+    if cfg!(feature = "port") {
+        a.cmp(&b)
+    } else {
+        Ordering::Equal
+    }
+}
+
+/// The items of a node. With the feature: in ascending order. Without it as the
+/// selection left them.
+#[inline]
+pub fn ascending(items: &mut [u32]) -> &mut [u32] {
+    if cfg!(feature = "port") {
+        items.sort_unstable();
+    }
+    items
 }

@@ -107,11 +107,11 @@ fn build_node(
         .unwrap_or(0);
     let mid = items.len() / 2;
     items.select_nth_unstable_by(mid, |&a, &b| {
-        centers[a as usize][axis].total_cmp(&centers[b as usize][axis])
+        centers[a as usize][axis].total_cmp(&centers[b as usize][axis]).then(crate::port::order(a, b)) // oracle: order
     });
     let (left, right) = items.split_at_mut(mid);
-    build_node(boxes, centers, left, offset, nodes);
-    let r = build_node(boxes, centers, right, offset + mid, nodes);
+    build_node(boxes, centers, crate::port::ascending(left), offset, nodes); // oracle: order
+    let r = build_node(boxes, centers, crate::port::ascending(right), offset + mid, nodes); // oracle: order
     let node = &mut nodes[me as usize];
     node.start = r;
     node.count = 0;
