@@ -3,6 +3,7 @@
 //! that take one are called through `answer`, which has a slice.
 
 pub mod meshes;
+pub mod trees;
 
 use std::ptr;
 

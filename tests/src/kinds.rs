@@ -10,6 +10,7 @@ pub mod root;
 pub mod root_inputs;
 pub mod rules;
 pub mod shapes;
+pub mod trees;
 
 use crate::plan::Plan;
 use crate::random::specials;

@@ -2,7 +2,7 @@
 //! welding, against csx and against document 01.
 
 pub mod boxes;
-mod expected;
+pub(super) mod expected;
 pub mod inputs;
 pub mod keys;
 pub mod questions;
@@ -24,7 +24,7 @@ use crate::report::{self, Report, Value};
 pub type Probe<T> = fn(&mut engine::meshes::Mesh, &mut [T]) -> u64;
 
 /// Refusal 6: the buffer is too short.
-const ROOM: u64 = 6 * REFUSAL;
+pub(super) const ROOM: u64 = 6 * REFUSAL;
 
 /// A mesh, with its lists as they are lent.
 #[derive(Clone, Debug, Default)]
@@ -35,17 +35,22 @@ pub struct Mesh {
 }
 
 impl Mesh {
-    fn push_face(&mut self, face: impl IntoIterator<Item = u32>) {
+    pub(super) fn push_face(&mut self, face: impl IntoIterator<Item = u32>) {
         self.corners.extend(face);
         self.ends.push(self.corners.len() as u32);
     }
 
     /// How many whole vertices there are.
-    fn vertex_count(&self) -> usize {
+    pub(super) fn vertex_count(&self) -> usize {
         self.coords.len() / 3
     }
 
-    fn vertex(&self, v: u32) -> Point {
+    /// How many triangles there are, if the ends fit.
+    pub(super) fn triangle_count(&self) -> usize {
+        self.corners.len().saturating_sub(2 * self.ends.len())
+    }
+
+    pub(super) fn vertex(&self, v: u32) -> Point {
         self.coords.as_chunks().0[v as usize]
     }
 
@@ -57,8 +62,23 @@ impl Mesh {
             .map(|(start, end)| &self.corners[*start as usize..*end as usize])
     }
 
+    /// The mesh of these faces over the same vertices.
+    pub(super) fn with_faces(
+        &self,
+        faces: impl IntoIterator<Item: IntoIterator<Item = u32>>,
+    ) -> Self {
+        let mut mesh = Self {
+            coords: self.coords.clone(),
+            ..Self::default()
+        };
+        for face in faces {
+            mesh.push_face(face);
+        }
+        mesh
+    }
+
     /// The mesh as csx makes it of whole vertices and of ends that fit.
-    fn csx(&self) -> csx::Result<Polyhedron> {
+    pub(super) fn csx(&self) -> csx::Result<Polyhedron> {
         let vertices = self.coords.as_chunks().0.iter().copied().map(Vec3);
         Polyhedron::new(
             vertices.collect(),
@@ -66,7 +86,7 @@ impl Mesh {
         )
     }
 
-    fn text(&self) -> String {
+    pub(super) fn text(&self) -> String {
         let Self {
             coords,
             corners,
@@ -84,36 +104,24 @@ impl Mesh {
 #[cfg(test)]
 impl Mesh {
     /// The mesh that is lent.
-    fn of(lists: &engine::meshes::Mesh) -> Self {
+    pub(super) fn of(lists: &engine::meshes::Mesh) -> Self {
         Self {
             coords: lists.coords.to_vec(),
             corners: lists.corners.to_vec(),
             ends: lists.ends.to_vec(),
         }
     }
-
-    /// The mesh of these faces over the same vertices.
-    fn with_faces(&self, faces: impl IntoIterator<Item: IntoIterator<Item = u32>>) -> Self {
-        let mut mesh = Self {
-            coords: self.coords.clone(),
-            ..Self::default()
-        };
-        for face in faces {
-            mesh.push_face(face);
-        }
-        mesh
-    }
 }
 
 /// A mesh whose lists are lent.
-struct LentMesh {
+pub(super) struct LentMesh {
     coords: Lent<f64>,
     corners: Lent<u32>,
     ends: Lent<u32>,
 }
 
 impl LentMesh {
-    fn new(mesh: &Mesh) -> Self {
+    pub(super) fn new(mesh: &Mesh) -> Self {
         Self {
             coords: Lent::new(&mesh.coords),
             corners: Lent::new(&mesh.corners),
@@ -121,7 +129,7 @@ impl LentMesh {
         }
     }
 
-    fn lend(&mut self) -> engine::meshes::Mesh<'_> {
+    pub(super) fn lend(&mut self) -> engine::meshes::Mesh<'_> {
         engine::meshes::Mesh {
             coords: self.coords.list(),
             corners: self.corners.list(),
@@ -131,7 +139,7 @@ impl LentMesh {
 
     /// The first place of a list that does not begin with what was written, or
     /// was changed behind it.
-    fn wrong(&self, written: &Mesh) -> Option<Wrong> {
+    pub(super) fn wrong(&self, written: &Mesh) -> Option<Wrong> {
         None.or_else(|| self.coords.wrong("coords", &written.coords))
             .or_else(|| self.corners.wrong("corners", &written.corners))
             .or_else(|| self.ends.wrong("ends", &written.ends))
@@ -141,9 +149,9 @@ impl LentMesh {
 /// What a call came to: its answer, and the first place of a lent list that is
 /// not as it should be.
 #[derive(Clone, Copy, PartialEq)]
-struct Outcome {
-    answer: u64,
-    wrong: Option<Wrong>,
+pub(super) struct Outcome {
+    pub answer: u64,
+    pub wrong: Option<Wrong>,
 }
 
 impl Outcome {
@@ -174,7 +182,7 @@ impl Value for Outcome {
 }
 
 /// A line of the table.
-type Line = report::Line<String>;
+pub(super) type Line = report::Line<String>;
 
 impl Line {
     /// Calls the function under test, and compares its answer and every lent
@@ -199,7 +207,7 @@ impl Line {
         });
     }
 
-    fn compare(&mut self, got: Outcome, want: u64, input: impl Fn() -> String) {
+    pub(super) fn compare(&mut self, got: Outcome, want: u64, input: impl Fn() -> String) {
         self.kind.compare_for(got, Outcome::answered(want), input);
         if want >= REFUSAL {
             self.see(format!("refusal {}", want / REFUSAL));
@@ -208,16 +216,16 @@ impl Line {
 }
 
 /// A function under test, and the lines that it is compared in.
-struct Asker<F> {
-    function: F,
-    rule: Line,
-    csx: Line,
-    random: Random,
+pub(super) struct Asker<F> {
+    pub function: F,
+    pub rule: Line,
+    pub csx: Line,
+    pub random: Random,
 }
 
 impl<F> Asker<F> {
     /// The line of csx has what is compared with it in its name.
-    fn new(function: F, plan: &Plan, name: &str, csx: &str) -> Self {
+    pub fn new(function: F, plan: &Plan, name: &str, csx: &str) -> Self {
         Self {
             function,
             rule: Line::new(format!("{name}, document 01")),
@@ -226,7 +234,7 @@ impl<F> Asker<F> {
         }
     }
 
-    fn add_to(self, report: &mut Report, needed: &[&str], needed_of_csx: &[&str]) {
+    pub fn add_to(self, report: &mut Report, needed: &[&str], needed_of_csx: &[&str]) {
         self.rule.add_to(report, needed);
         self.csx.add_to(report, needed_of_csx);
     }
@@ -234,7 +242,7 @@ impl<F> Asker<F> {
 
 /// How long a buffer is lent that has to have this length: exactly so, somewhat
 /// longer, or one shorter if it can be.
-fn buffer_length(needed: usize, random: &mut Random) -> usize {
+pub(super) fn buffer_length(needed: usize, random: &mut Random) -> usize {
     match random.below(8) {
         0 => needed.saturating_sub(1),
         1..=4 => needed,

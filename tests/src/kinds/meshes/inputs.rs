@@ -32,7 +32,7 @@ impl Numbers {
         }
     }
 
-    fn number(self, random: &mut Random) -> f64 {
+    pub fn number(self, random: &mut Random) -> f64 {
         let size = match self {
             Self::Few => random.below(3) as f64,
             Self::Everyday => return random.everyday(),
@@ -273,7 +273,7 @@ pub fn some_of(questions: &[u64], random: &mut Random) -> Vec<u64> {
     some
 }
 
-fn shuffle<T>(list: &mut [T], random: &mut Random) {
+pub fn shuffle<T>(list: &mut [T], random: &mut Random) {
     for i in 1..list.len() {
         list.swap(i, pick(i + 1, random));
     }

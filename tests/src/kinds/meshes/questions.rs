@@ -50,12 +50,7 @@ fn ask(asker: &mut Asker<Probe<u64>>, mesh: &Mesh) {
 
 /// The vertices, faces and triangles.
 fn counts(mesh: &Mesh) -> [u64; 3] {
-    [
-        mesh.vertex_count(),
-        mesh.ends.len(),
-        mesh.corners.len().saturating_sub(2 * mesh.ends.len()),
-    ]
-    .map(|n| n as u64)
+    [mesh.vertex_count(), mesh.ends.len(), mesh.triangle_count()].map(|n| n as u64)
 }
 
 /// Asks about a mesh that questions 1 and 2 let pass.
@@ -129,7 +124,7 @@ fn every_length(ask: &mut impl FnMut(&Mesh)) {
 }
 
 /// Makes a mesh that this question refuses, if it can be.
-fn spoil(mesh: &mut Mesh, question: u64, random: &mut Random) {
+pub(in crate::kinds) fn spoil(mesh: &mut Mesh, question: u64, random: &mut Random) {
     let vertices = mesh.vertex_count();
     match question {
         1 => mesh.coords.resize(3 * vertices + 1 + pick(2, random), 0.0),

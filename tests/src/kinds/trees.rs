@@ -1,0 +1,96 @@
+//! Trees: building and checking them, against document 01 and csx.
+
+pub mod building;
+pub mod checking;
+mod damage;
+mod expected;
+mod inputs;
+mod others;
+#[cfg(test)]
+mod wrong_builders;
+#[cfg(test)]
+mod wrong_checks;
+
+use super::lent::{Lent, Wrong, cut};
+use super::meshes::expected::Bounds;
+use crate::engine;
+
+/// A tree, with its lists as they are lent.
+#[derive(Clone, Debug, Default, PartialEq)]
+pub struct Tree {
+    pub boxes: Vec<f64>,
+    pub nodes: Vec<u32>,
+    pub items: Vec<u32>,
+}
+
+impl Tree {
+    /// How many whole nodes there are.
+    fn node_count(&self) -> usize {
+        self.nodes.len() / 2
+    }
+
+    /// The box of each node.
+    fn bounds(&self) -> impl Iterator<Item = Bounds> {
+        let boxes = self.boxes.as_chunks().0.as_chunks().0.iter();
+        boxes.copied()
+    }
+
+    fn text(&self) -> String {
+        let Self {
+            boxes,
+            nodes,
+            items,
+        } = self;
+        format!(
+            "boxes {}, nodes {}, items {}",
+            cut(boxes),
+            cut(nodes),
+            cut(items)
+        )
+    }
+}
+
+/// A tree whose lists are lent.
+struct LentTree {
+    boxes: Lent<f64>,
+    nodes: Lent<u32>,
+    items: Lent<u32>,
+}
+
+impl LentTree {
+    fn new(tree: &Tree) -> Self {
+        Self {
+            boxes: Lent::new(&tree.boxes),
+            nodes: Lent::new(&tree.nodes),
+            items: Lent::new(&tree.items),
+        }
+    }
+
+    fn lend(&mut self) -> engine::trees::Tree<'_> {
+        engine::trees::Tree {
+            boxes: self.boxes.list(),
+            nodes: self.nodes.list(),
+            items: self.items.list(),
+        }
+    }
+
+    /// The first place of a list that does not begin with what was written, or
+    /// was changed behind it.
+    fn wrong(&self, written: &Tree) -> Option<Wrong> {
+        None.or_else(|| self.boxes.wrong("boxes", &written.boxes))
+            .or_else(|| self.nodes.wrong("nodes", &written.nodes))
+            .or_else(|| self.items.wrong("items", &written.items))
+    }
+}
+
+#[cfg(test)]
+impl Tree {
+    /// The tree that is lent.
+    fn of(lists: &engine::trees::Tree) -> Self {
+        Self {
+            boxes: lists.boxes.to_vec(),
+            nodes: lists.nodes.to_vec(),
+            items: lists.items.to_vec(),
+        }
+    }
+}

@@ -1,0 +1,267 @@
+//! Building trees, with every byte of the lent lists, against the builder rule
+//! in plain Rust and against csx.
+
+use super::expected::{Built, RULE, build, own_boxes};
+use super::{LentTree, Tree, inputs};
+use crate::engine;
+use crate::kinds::lent::Lent;
+use crate::kinds::meshes::expected::{center, refusal};
+use crate::kinds::meshes::inputs::{large as large_meshes, pick, some_of};
+use crate::kinds::meshes::questions::spoil;
+use crate::kinds::meshes::{Asker, LentMesh, Line, Mesh, Outcome, ROOM};
+use crate::plan::Plan;
+use crate::random::Random;
+use crate::report::Report;
+
+/// The function under test, as `engine::trees::build` is.
+pub type Build = fn(&mut engine::meshes::Mesh, &mut engine::trees::Tree) -> u64;
+
+/// How long the lent buffers are.
+#[derive(Clone, Copy, Debug)]
+struct Room {
+    boxes: usize,
+    nodes: usize,
+    items: usize,
+}
+
+impl Room {
+    /// As long as needed for so many triangles.
+    fn needed(triangles: usize) -> Self {
+        Self {
+            boxes: 6 * triangles,
+            nodes: 2 * triangles,
+            items: triangles,
+        }
+    }
+
+    fn lengths_mut(&mut self) -> [&mut usize; 3] {
+        [&mut self.boxes, &mut self.nodes, &mut self.items]
+    }
+
+    fn lengths(mut self) -> [usize; 3] {
+        self.lengths_mut().map(|length| *length)
+    }
+
+    /// Whether no buffer is shorter than this.
+    fn holds(self, needed: Self) -> bool {
+        let lengths = self.lengths().into_iter().zip(needed.lengths());
+        lengths.into_iter().all(|(length, needed)| length >= needed)
+    }
+
+    /// Room for so many triangles, some of it longer than needed, and one buffer
+    /// or all of them shorter if that is asked for and can be.
+    fn any(triangles: usize, short: bool, random: &mut Random) -> Self {
+        let mut room = Self::needed(triangles);
+        let one = pick(4, random);
+        for (i, length) in room.lengths_mut().into_iter().enumerate() {
+            if short && (i == one || one == 3) {
+                *length = length.saturating_sub(1 + pick(triangles + 1, random));
+            } else if random.flip() {
+                *length += pick(9, random);
+            }
+        }
+        room
+    }
+}
+
+/// The function under test, and the lines that it is compared in: with the rule,
+/// with the starts and counts of csx, and with its items and boxes.
+struct Builder {
+    asker: Asker<Build>,
+    csx: Line,
+    /// How many zeros csx gives with the other sign.
+    zeros: u64,
+}
+
+impl Builder {
+    fn new(build: Build, plan: &Plan, name: &str) -> Self {
+        Self {
+            asker: Asker::new(build, plan, name, "starts and counts by csx"),
+            csx: Line::new(format!("{name}, items and boxes by csx")),
+            zeros: 0,
+        }
+    }
+
+    /// Builds a tree in buffers of these lengths.
+    fn ask(&mut self, mesh: &Mesh, room: Room) {
+        let Asker {
+            function,
+            rule,
+            random,
+            ..
+        } = &mut self.asker;
+        let mut lent = LentMesh::new(mesh);
+        let mut tree = LentTree {
+            boxes: Lent::garbage(room.boxes, random),
+            nodes: Lent::garbage(room.nodes, random),
+            items: Lent::garbage(room.items, random),
+        };
+        let answer = function(&mut lent.lend(), &mut tree.lend());
+        let unchanged = lent.wrong(&Mesh::default());
+        let text = || format!("{}, {room:?}", mesh.text());
+        let refused = refusal(mesh).or_else(|| {
+            let needed = Room::needed(mesh.triangle_count());
+            (!room.holds(needed)).then_some(ROOM)
+        });
+        if let Some(want) = refused {
+            let wrong = unchanged.or_else(|| tree.wrong(&Tree::default()));
+            return rule.compare(Outcome { answer, wrong }, want, text);
+        }
+        let own = own_boxes(mesh);
+        let built = build(&RULE, &own);
+        let want = built.tree.node_count() as u64;
+        let wrong = unchanged.or_else(|| tree.wrong(&built.tree));
+        rule.compare(Outcome { answer, wrong }, want, text);
+        rule.see(sort(&built));
+        if own
+            .iter()
+            .any(|own| center(*own).iter().any(|x| x.is_infinite()))
+        {
+            rule.see("an infinite centre");
+        }
+        self.compare_csx(mesh, &built, answer, &mut tree);
+    }
+
+    /// Compares what was built with csx's tree. Where centres at a median are
+    /// equal csx does not say which triangles go left, and it does not say in
+    /// which order a leaf has them, unless it has the feature `port`.
+    fn compare_csx(&mut self, mesh: &Mesh, built: &Built, answer: u64, tree: &mut LentTree) {
+        let mut csx = csx_tree(mesh);
+        let want = csx.node_count() as u64;
+        let wrong = tree.nodes.wrong("nodes", &csx.nodes);
+        let line = &mut self.asker.csx;
+        line.compare(Outcome { answer, wrong }, want, || mesh.text());
+        line.see(sort(built));
+        if !cfg!(feature = "port") {
+            if built.tied || built.flat {
+                return self.csx.see(format!("left out for {}", sort(built)));
+            }
+            csx.sort_leaves();
+            self.zeros += take_zeros(&mut csx.boxes, tree.boxes.list());
+        }
+        let wrong = tree.wrong(&csx);
+        self.csx
+            .compare(Outcome { answer, wrong }, want, || mesh.text());
+        self.csx.see(sort(built));
+    }
+
+    fn add_to(self, report: &mut Report, needed: &[&str]) {
+        self.asker.add_to(report, needed, &[] as &[&str]);
+        self.csx.add_to(report, &["centres apart at each median"]);
+        if !cfg!(feature = "port") {
+            report.note(format_args!(
+                "zeros to which csx gives the other sign: {}, a listed difference",
+                self.zeros
+            ));
+        }
+    }
+}
+
+/// What sort of tree it is: what csx leaves open of it, if anything.
+fn sort(built: &Built) -> &'static str {
+    match built {
+        Built { tree, .. } if tree.node_count() == 0 => "no triangles",
+        Built { tree, .. } if tree.node_count() == 1 => "one leaf",
+        Built { tied: true, .. } => "equal centres at a median",
+        Built { flat: true, .. } => "a spread of zero",
+        _ => "centres apart at each median",
+    }
+}
+
+/// The tree that csx builds of an accepted mesh.
+fn csx_tree(mesh: &Mesh) -> Tree {
+    let bvh = mesh.csx().expect("an accepted mesh").bvh;
+    let mut tree = Tree {
+        items: bvh.items,
+        ..Tree::default()
+    };
+    for node in bvh.nodes {
+        tree.boxes
+            .extend([node.bbox.min.0, node.bbox.max.0].as_flattened());
+        tree.nodes.extend([node.start, node.count]);
+    }
+    tree
+}
+
+impl Tree {
+    /// Puts the items of each leaf in ascending order.
+    fn sort_leaves(&mut self) {
+        for [start, count] in self.nodes.as_chunks().0 {
+            let (start, count) = (*start as usize, *count as usize);
+            if count > 0 {
+                self.items[start..start + count].sort_unstable();
+            }
+        }
+    }
+}
+
+/// Gives each zero the sign that it has in the other list, if it is one there
+/// too, and counts the changes.
+fn take_zeros(numbers: &mut [f64], signs: &[f64]) -> u64 {
+    let mut changes = 0;
+    for (x, sign) in numbers.iter_mut().zip(signs) {
+        if *x == 0.0 && *sign == 0.0 && x.to_bits() != sign.to_bits() {
+            *x = *sign;
+            changes += 1;
+        }
+    }
+    changes
+}
+
+/// What a line of small meshes has to see.
+const NEEDED: [&str; 12] = [
+    "no triangles",
+    "one leaf",
+    "equal centres at a median",
+    "a spread of zero",
+    "centres apart at each median",
+    "an infinite centre",
+    "refusal 1",
+    "refusal 2",
+    "refusal 3",
+    "refusal 4",
+    "refusal 5",
+    "refusal 6",
+];
+
+/// Compares small meshes, without a fault and with each and each set of them.
+pub fn compare(report: &mut Report, plan: &Plan, build: Build) {
+    let mut builder = Builder::new(build, plan, "trees built");
+    for _ in 0..plan.times(150_000) {
+        let random = &mut builder.asker.random;
+        let mut mesh = inputs::mesh(random);
+        let triangles = mesh.triangle_count();
+        let mut short = false;
+        if random.below(4) == 0 {
+            // 1 and 2 come last: their faults leave no faces to be found.
+            for question in some_of(&[6, 3, 4, 5, 1, 2], random) {
+                match question {
+                    6 => short = true,
+                    _ => spoil(&mut mesh, question, random),
+                }
+            }
+        }
+        let room = Room::any(triangles, short, random);
+        builder.ask(&mesh, room);
+    }
+    builder.add_to(report, &NEEDED);
+}
+
+/// Compares large meshes, and each buffer one short.
+pub fn large(report: &mut Report, plan: &Plan, build: Build) {
+    let mut builder = Builder::new(build, plan, "trees built of large meshes");
+    for _ in 0..plan.times(1) {
+        let random = &mut builder.asker.random;
+        let mut meshes = large_meshes(random);
+        meshes.push(inputs::points(65_536, |_| {
+            [(); 3].map(|()| random.fraction())
+        }));
+        for mesh in meshes {
+            let mut room = Room::needed(mesh.triangle_count());
+            builder.ask(&mesh, room);
+            *room.lengths_mut()[pick(3, &mut builder.asker.random)] -= 1;
+            builder.ask(&mesh, room);
+        }
+    }
+    builder.add_to(report, &["refusal 6"]);
+}
