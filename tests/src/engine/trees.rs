@@ -21,29 +21,26 @@ of_lists! {
 /// The number of nodes, or the refusal. Then the lists begin with the tree of
 /// the mesh.
 pub fn build(mesh: &mut Mesh, tree: &mut Tree) -> u64 {
-    let Tree {
-        boxes,
-        nodes,
-        items,
-    } = tree;
-    csx_build_tree(mesh.coords, mesh.corners, mesh.ends, boxes, nodes, items)
+    csx_build_tree(
+        mesh.coords,
+        mesh.corners,
+        mesh.ends,
+        tree.boxes,
+        tree.nodes,
+        tree.items,
+    )
 }
 
 /// 0 if the tree keeps the tree rules for the mesh, or the refusal. Unless it is
 /// one by questions 1 to 6, `work` begins with a 0 for each corner then.
 pub fn check(mesh: &mut Mesh, tree: &mut Tree, work: &mut [u64]) -> u64 {
-    let Tree {
-        boxes,
-        nodes,
-        items,
-    } = tree;
     csx_check_tree(
         mesh.coords,
         mesh.corners,
         mesh.ends,
-        boxes,
-        nodes,
-        items,
+        tree.boxes,
+        tree.nodes,
+        tree.items,
         work,
     )
 }

@@ -26,6 +26,18 @@ pub type Probe<T> = fn(&mut engine::meshes::Mesh, &mut [T]) -> u64;
 /// Refusal 6: the buffer is too short.
 pub(super) const ROOM: u64 = 6 * REFUSAL;
 
+/// What a line of questions 1 to 7 has to see, or a part of it.
+pub(super) const QUESTIONS: [&str; 8] = [
+    "accepted",
+    "refusal 1",
+    "refusal 2",
+    "refusal 3",
+    "refusal 4",
+    "refusal 5",
+    "refusal 6",
+    "refusal 7",
+];
+
 /// A mesh, with its lists as they are lent.
 #[derive(Clone, Debug, Default)]
 pub struct Mesh {

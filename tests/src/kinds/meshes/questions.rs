@@ -5,22 +5,11 @@ use csx::Error;
 
 use super::expected::{CORNERS, FACES, VERTICES, code, lengths, refusal};
 use super::inputs::{self, Numbers, pick, some_of, torus};
-use super::{Asker, Lent, LentMesh, Mesh, Outcome, Probe, ROOM, buffer_length};
+use super::{Asker, Lent, LentMesh, Mesh, Outcome, Probe, QUESTIONS, ROOM, buffer_length};
 use crate::engine::REFUSAL;
 use crate::plan::Plan;
 use crate::random::{NOT_FINITE, Random};
 use crate::report::Report;
-
-/// What the line of the rule has to see.
-const NEEDED: [&str; 7] = [
-    "accepted",
-    "refusal 1",
-    "refusal 2",
-    "refusal 3",
-    "refusal 4",
-    "refusal 5",
-    "refusal 6",
-];
 
 /// What the line of csx has to see.
 const NEEDED_OF_CSX: [&str; 4] = ["accepted", "refusal 3", "refusal 4", "refusal 5"];
@@ -102,7 +91,7 @@ pub fn compare(report: &mut Report, plan: &Plan, probe: Probe<u64>) {
         }
         ask(&mut asker, &mesh);
     }
-    asker.add_to(report, &NEEDED, &NEEDED_OF_CSX);
+    asker.add_to(report, &QUESTIONS[..7], &NEEDED_OF_CSX);
 }
 
 /// Up to 3 faces with ends up to 7, up to 7 corners and up to 7 coordinates.
@@ -182,7 +171,7 @@ pub fn limits(report: &mut Report, plan: &Plan, probe: Probe<u64>) {
     for mesh in limit_meshes(&mut asker.random) {
         ask(&mut asker, &mesh);
     }
-    asker.add_to(report, &NEEDED[..6], &NEEDED_OF_CSX);
+    asker.add_to(report, &QUESTIONS[..6], &NEEDED_OF_CSX);
 }
 
 /// Meshes with as many vertices, faces and corners as are accepted and with one

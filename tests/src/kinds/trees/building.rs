@@ -8,7 +8,7 @@ use crate::kinds::lent::Lent;
 use crate::kinds::meshes::expected::{center, refusal};
 use crate::kinds::meshes::inputs::{large as large_meshes, pick, some_of};
 use crate::kinds::meshes::questions::spoil;
-use crate::kinds::meshes::{Asker, LentMesh, Line, Mesh, Outcome, ROOM};
+use crate::kinds::meshes::{Asker, LentMesh, Line, Mesh, Outcome, QUESTIONS, ROOM};
 use crate::plan::Plan;
 use crate::random::Random;
 use crate::report::Report;
@@ -209,19 +209,13 @@ fn take_zeros(numbers: &mut [f64], signs: &[f64]) -> u64 {
 }
 
 /// What a line of small meshes has to see.
-const NEEDED: [&str; 12] = [
+const NEEDED: [&str; 6] = [
     "no triangles",
     "one leaf",
     "equal centres at a median",
     "a spread of zero",
     "centres apart at each median",
     "an infinite centre",
-    "refusal 1",
-    "refusal 2",
-    "refusal 3",
-    "refusal 4",
-    "refusal 5",
-    "refusal 6",
 ];
 
 /// Compares small meshes, without a fault and with each and each set of them.
@@ -244,7 +238,7 @@ pub fn compare(report: &mut Report, plan: &Plan, build: Build) {
         let room = Room::any(triangles, short, random);
         builder.ask(&mesh, room);
     }
-    builder.add_to(report, &NEEDED);
+    builder.add_to(report, &[&NEEDED[..], &QUESTIONS[1..7]].concat());
 }
 
 /// Compares large meshes, and each buffer one short.

@@ -9,7 +9,7 @@ use crate::kinds::lent::Lent;
 use crate::kinds::meshes::expected::{Bounds, refusal};
 use crate::kinds::meshes::inputs::{large as large_meshes, pick, some_of};
 use crate::kinds::meshes::questions::spoil;
-use crate::kinds::meshes::{LentMesh, Line, Mesh, Outcome, ROOM, buffer_length};
+use crate::kinds::meshes::{LentMesh, Line, Mesh, Outcome, QUESTIONS, ROOM, buffer_length};
 use crate::plan::Plan;
 use crate::random::Random;
 use crate::report::Report;
@@ -180,11 +180,14 @@ pub(super) fn paths(report: &mut Report, plan: &Plan, check: Check) {
     leaves.line.add_to(report, &["accepted", "refusal 7"]);
 }
 
+/// A mesh as it is later.
+type Form = fn(&Mesh, &mut Random) -> Mesh;
+
 /// Trees of an older form of the mesh: before a vertex was moved, before it was
 /// reordered, and before it was renumbered.
 pub(super) fn trees_of_other_meshes(report: &mut Report, plan: &Plan, check: Check) {
     let mut asker = Asker::new(check, plan, "of another mesh");
-    let forms: [(&str, fn(&Mesh, &mut Random) -> Mesh); 3] = [
+    let forms: [(&str, Form); 3] = [
         ("revised", inputs::revised),
         ("reordered", inputs::reordered),
         ("renumbered", inputs::renumbered),
@@ -257,17 +260,7 @@ pub(super) fn refusals(report: &mut Report, plan: &Plan, check: Check) {
         };
         asker.compare(&mesh, &tree, length, want);
     }
-    let needed = [
-        "accepted",
-        "refusal 1",
-        "refusal 2",
-        "refusal 3",
-        "refusal 4",
-        "refusal 5",
-        "refusal 6",
-        "refusal 7",
-    ];
-    asker.line.add_to(report, &needed);
+    asker.line.add_to(report, &QUESTIONS);
 }
 
 /// Compares large meshes, with their own trees and with damaged ones.

@@ -49,8 +49,10 @@ fn by(mesh: &Lists, tree: &mut Lent, built: impl FnOnce(&[Bounds]) -> Tree) -> u
     write(&built(&own_boxes(&mesh)), tree)
 }
 
-/// An engine with this rule.
-fn by_rule(mesh: &Lists, tree: &mut Lent, rule: Rule) -> u64 {
+/// An engine with a part of the rule changed.
+fn by_rule(mesh: &Lists, tree: &mut Lent, change: fn(&mut Rule)) -> u64 {
+    let mut rule = RULE;
+    change(&mut rule);
     by(mesh, tree, |own| build(&rule, own).tree)
 }
 
@@ -64,7 +66,7 @@ fn changed(mesh: &Lists, tree: &mut Lent, change: fn(&mut Tree, &[Bounds])) -> u
 }
 
 fn right(mesh: &mut Lists, tree: &mut Lent) -> u64 {
-    by_rule(mesh, tree, RULE)
+    by_rule(mesh, tree, |_| {})
 }
 
 #[test]
@@ -75,10 +77,10 @@ fn the_rule_passes() {
 
 /// An engine that chooses the axis so.
 fn by_axis(mesh: &Lists, tree: &mut Lent, axis: fn(&[Point]) -> usize) -> u64 {
-    by_rule(mesh, tree, Rule { axis, ..RULE })
+    by(mesh, tree, |own| build(&Rule { axis, ..RULE }, own).tree)
 }
 
-/// An engine that measures the numbers along each axis so.
+/// The centres along each axis, measured so.
 fn measured(centers: &[Point], measure: fn(&[f64]) -> f64) -> [f64; 3] {
     from_fn(|axis| {
         let numbers: Vec<f64> = centers.iter().map(|c| c[axis]).collect();
@@ -129,64 +131,38 @@ fn wrong_axes_are_caught() {
 #[test]
 fn wrong_centres_are_caught() {
     // that do not overflow
-    assert!(fails(|mesh, tree| {
-        let center = |[min, max]: Bounds| from_fn(|i| min[i] / 2.0 + max[i] / 2.0);
-        by_rule(mesh, tree, Rule { center, ..RULE })
-    }));
+    assert!(fails(|mesh, tree| by_rule(mesh, tree, |rule| {
+        rule.center = |[min, max]| from_fn(|i| min[i] / 2.0 + max[i] / 2.0);
+    })));
     // the least corner
-    assert!(fails(|mesh, tree| {
-        let center = |[min, _]: Bounds| min;
-        by_rule(mesh, tree, Rule { center, ..RULE })
-    }));
+    assert!(fails(|mesh, tree| by_rule(mesh, tree, |rule| {
+        rule.center = |[min, _]| min;
+    })));
 }
 
 #[test]
 fn wrong_orders_are_caught() {
     // zeros equal
-    assert!(fails(|mesh, tree| by_rule(
-        mesh,
-        tree,
-        Rule {
-            order: |a, b| (a.0 + 0.0).total_cmp(&(b.0 + 0.0)).then(a.1.cmp(&b.1)),
-            ..RULE
-        }
-    )));
+    assert!(fails(|mesh, tree| by_rule(mesh, tree, |rule| {
+        rule.order = |a, b| (a.0 + 0.0).total_cmp(&(b.0 + 0.0)).then(a.1.cmp(&b.1));
+    })));
     // the highest number first
-    assert!(fails(|mesh, tree| by_rule(
-        mesh,
-        tree,
-        Rule {
-            order: |a, b| a.0.total_cmp(&b.0).then(b.1.cmp(&a.1)),
-            ..RULE
-        }
-    )));
+    assert!(fails(|mesh, tree| by_rule(mesh, tree, |rule| {
+        rule.order = |a, b| a.0.total_cmp(&b.0).then(b.1.cmp(&a.1));
+    })));
     // the greatest first
-    assert!(fails(|mesh, tree| by_rule(
-        mesh,
-        tree,
-        Rule {
-            order: |a, b| b.0.total_cmp(&a.0).then(a.1.cmp(&b.1)),
-            ..RULE
-        }
-    )));
+    assert!(fails(|mesh, tree| by_rule(mesh, tree, |rule| {
+        rule.order = |a, b| b.0.total_cmp(&a.0).then(a.1.cmp(&b.1));
+    })));
 }
 
 #[test]
 fn wrong_halves_and_leaves_are_caught() {
-    assert!(fails(|mesh, tree| {
-        let left = |count: usize| count.div_ceil(2);
-        by_rule(mesh, tree, Rule { left, ..RULE })
-    }));
-    assert!(fails(|mesh, tree| by_rule(
-        mesh,
-        tree,
-        Rule { leaf: 3, ..RULE }
-    )));
-    assert!(fails(|mesh, tree| by_rule(
-        mesh,
-        tree,
-        Rule { leaf: 5, ..RULE }
-    )));
+    assert!(fails(|mesh, tree| by_rule(mesh, tree, |rule| {
+        rule.left = |count| count.div_ceil(2);
+    })));
+    assert!(fails(|mesh, tree| by_rule(mesh, tree, |rule| rule.leaf = 3)));
+    assert!(fails(|mesh, tree| by_rule(mesh, tree, |rule| rule.leaf = 5)));
     // a leaf's items as they were sorted
     assert!(fails(|mesh, tree| changed(mesh, tree, |tree, own| {
         let center = |t: &u32| (RULE.center)(own[*t as usize])[2];

@@ -45,8 +45,10 @@ fn by(
     }
 }
 
-/// An engine with these rules.
-fn by_rules(mesh: &Lists, tree: &Lent, work: &mut [u64], rules: TreeRules) -> u64 {
+/// An engine with one of the rules changed.
+fn by_rules(mesh: &Lists, tree: &Lent, work: &mut [u64], change: fn(&mut TreeRules)) -> u64 {
+    let mut rules = TREE_RULES;
+    change(&mut rules);
     by(mesh, tree, work, |tree, own| keeps(&rules, tree, own))
 }
 
@@ -71,7 +73,7 @@ fn stricter(
 }
 
 fn right(mesh: &mut Lists, tree: &mut Lent, work: &mut [u64]) -> u64 {
-    by_rules(mesh, tree, work, TREE_RULES)
+    by_rules(mesh, tree, work, |_| {})
 }
 
 #[test]
@@ -138,42 +140,17 @@ fn wrong_lengths_are_caught() {
 fn wrong_starts_and_counts_are_caught() {
     for part in [every_small_tree, damaged] {
         assert!(caught(part, |mesh, tree, work| {
-            let inner_start = |_, _| true;
-            by_rules(
-                mesh,
-                tree,
-                work,
-                TreeRules {
-                    inner_start,
-                    ..TREE_RULES
-                },
-            )
+            by_rules(mesh, tree, work, |rules| rules.inner_start = |_, _| true)
         }));
         assert!(caught(part, |mesh, tree, work| {
-            let leaf_start = |_, _| true;
-            by_rules(
-                mesh,
-                tree,
-                work,
-                TreeRules {
-                    leaf_start,
-                    ..TREE_RULES
-                },
-            )
+            by_rules(mesh, tree, work, |rules| rules.leaf_start = |_, _| true)
         }));
     }
     // leaves that overlap
     assert!(caught(every_small_tree, |mesh, tree, work| {
-        let leaf_start = |start, first| start as usize <= first;
-        by_rules(
-            mesh,
-            tree,
-            work,
-            TreeRules {
-                leaf_start,
-                ..TREE_RULES
-            },
-        )
+        by_rules(mesh, tree, work, |rules| {
+            rules.leaf_start = |start, first| start as usize <= first;
+        })
     }));
     // starts that a product makes right
     assert!(caught(damaged, |mesh, tree, work| {
@@ -183,26 +160,10 @@ fn wrong_starts_and_counts_are_caught() {
     }));
     for part in [every_small_tree, paths] {
         assert!(caught(part, |mesh, tree, work| {
-            by_rules(
-                mesh,
-                tree,
-                work,
-                TreeRules {
-                    counts: 1..=5,
-                    ..TREE_RULES
-                },
-            )
+            by_rules(mesh, tree, work, |rules| rules.counts = 1..=5)
         }));
         assert!(caught(part, |mesh, tree, work| {
-            by_rules(
-                mesh,
-                tree,
-                work,
-                TreeRules {
-                    counts: 1..=3,
-                    ..TREE_RULES
-                },
-            )
+            by_rules(mesh, tree, work, |rules| rules.counts = 1..=3)
         }));
     }
 }
@@ -210,46 +171,32 @@ fn wrong_starts_and_counts_are_caught() {
 #[test]
 fn wrong_paths_are_caught() {
     assert!(caught(paths, |mesh, tree, work| {
-        by_rules(
-            mesh,
-            tree,
-            work,
-            TreeRules {
-                path: 33,
-                ..TREE_RULES
-            },
-        )
+        by_rules(mesh, tree, work, |rules| rules.path = 33)
     }));
     assert!(caught(paths, |mesh, tree, work| {
-        by_rules(
-            mesh,
-            tree,
-            work,
-            TreeRules {
-                path: 31,
-                ..TREE_RULES
-            },
-        )
+        by_rules(mesh, tree, work, |rules| rules.path = 31)
     }));
 }
 
 #[test]
 fn wrong_items_are_caught() {
+    fn below(items: &[u32], count: usize) -> bool {
+        items.iter().all(|t| (*t as usize) < count)
+    }
     // doubled
-    let doubled: Check = |mesh, tree, work| {
-        let once = |items: &[u32], count| items.iter().all(|t| (*t as usize) < count);
-        by_rules(mesh, tree, work, TreeRules { once, ..TREE_RULES })
-    };
-    assert!(caught(damaged, doubled));
-    assert!(caught(every_small_tree, doubled));
+    for part in [every_small_tree, damaged] {
+        assert!(caught(part, |mesh, tree, work| {
+            by_rules(mesh, tree, work, |rules| rules.once = below)
+        }));
+    }
     // the right sum
     assert!(caught(every_small_tree, |mesh, tree, work| {
-        let once = |items: &[u32], count| {
-            let sum: u64 = items.iter().map(|t| u64::from(*t)).sum();
-            let below = items.iter().all(|t| (*t as usize) < count);
-            below && 2 * sum == (count * count.saturating_sub(1)) as u64
-        };
-        by_rules(mesh, tree, work, TreeRules { once, ..TREE_RULES })
+        by_rules(mesh, tree, work, |rules| {
+            rules.once = |items, count| {
+                let sum: usize = items.iter().map(|t| *t as usize).sum();
+                below(items, count) && sum == (0..count).sum()
+            }
+        })
     }));
     // one too high
     assert!(caught(damaged, |mesh, tree, work| {
@@ -278,83 +225,40 @@ fn wrong_boxes_are_caught() {
     }
     // no triangle on an edge
     assert!(caught(trees_of_the_mesh, |mesh, tree, work| {
-        let encloses = |a, b| edges(a, b, |x, y| x < y);
-        by_rules(
-            mesh,
-            tree,
-            work,
-            TreeRules {
-                encloses,
-                ..TREE_RULES
-            },
-        )
+        by_rules(mesh, tree, work, |rules| {
+            rules.encloses = |a, b| edges(a, b, |x, y| x < y);
+        })
     }));
     // a zero below another
     assert!(caught(trees_of_the_mesh, |mesh, tree, work| {
-        let encloses = |a, b| edges(a, b, |x, y| x.total_cmp(&y).is_le());
-        by_rules(
-            mesh,
-            tree,
-            work,
-            TreeRules {
-                encloses,
-                ..TREE_RULES
-            },
-        )
+        by_rules(mesh, tree, work, |rules| {
+            rules.encloses = |a, b| edges(a, b, |x, y| x.total_cmp(&y).is_le());
+        })
     }));
     // a last bit overlooked
     assert!(caught(damaged, |mesh, tree, work| {
-        let encloses = |a, b| edges(a, b, |x, y| x <= moved(y, 1));
-        by_rules(
-            mesh,
-            tree,
-            work,
-            TreeRules {
-                encloses,
-                ..TREE_RULES
-            },
-        )
+        by_rules(mesh, tree, work, |rules| {
+            rules.encloses = |a, b| edges(a, b, |x, y| x <= moved(y, 1));
+        })
     }));
     // a NaN taken for a number that is right
     assert!(caught(damaged, |mesh, tree, work| {
-        let encloses = |a, b| edges(a, b, |x, y| !(x > y));
-        by_rules(
-            mesh,
-            tree,
-            work,
-            TreeRules {
-                encloses,
-                ..TREE_RULES
-            },
-        )
+        by_rules(mesh, tree, work, |rules| {
+            rules.encloses = |a, b| edges(a, b, |x, y| x <= y || x.is_nan() || y.is_nan());
+        })
     }));
     // an axis not looked at
     assert!(caught(damaged, |mesh, tree, work| {
-        let encloses = |[a, b]: Bounds, [c, d]: Bounds| {
-            encloses([[a[0], a[1], c[2]], [b[0], b[1], d[2]]], [c, d])
-        };
-        by_rules(
-            mesh,
-            tree,
-            work,
-            TreeRules {
-                encloses,
-                ..TREE_RULES
-            },
-        )
+        by_rules(mesh, tree, work, |rules| {
+            rules.encloses =
+                |[a, b], [c, d]| encloses([[a[0], a[1], c[2]], [b[0], b[1], d[2]]], [c, d]);
+        })
     }));
     // greatest edges not looked at
     assert!(caught(damaged, |mesh, tree, work| {
-        let encloses = |[a, _]: Bounds, [c, d]: Bounds| encloses([a, d], [c, d]);
-        by_rules(
-            mesh,
-            tree,
-            work,
-            TreeRules {
-                encloses,
-                ..TREE_RULES
-            },
-        )
+        by_rules(mesh, tree, work, |rules| {
+            rules.encloses = |[a, _], [c, d]| encloses([a, d], [c, d]);
+        })
     }));
     // boxes of inner nodes not looked at, and those of leaves
     assert!(caught(damaged, |mesh, tree, work| {
