@@ -90,7 +90,7 @@ impl Mesh {
     }
 
     /// The mesh as csx makes it of whole vertices and of ends that fit.
-    pub(super) fn csx(&self) -> csx::Result<Polyhedron> {
+    pub fn csx(&self) -> csx::Result<Polyhedron> {
         let vertices = self.coords.as_chunks().0.iter().copied().map(Vec3);
         Polyhedron::new(
             vertices.collect(),

@@ -4,7 +4,7 @@ pub mod building;
 pub mod checking;
 mod damage;
 mod expected;
-mod inputs;
+pub mod inputs;
 mod others;
 #[cfg(test)]
 mod wrong_builders;

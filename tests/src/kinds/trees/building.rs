@@ -6,7 +6,7 @@ use super::{LentTree, Tree, inputs};
 use crate::engine;
 use crate::kinds::lent::Lent;
 use crate::kinds::meshes::expected::{center, refusal};
-use crate::kinds::meshes::inputs::{large as large_meshes, pick, some_of};
+use crate::kinds::meshes::inputs::{pick, some_of};
 use crate::kinds::meshes::questions::spoil;
 use crate::kinds::meshes::{Asker, LentMesh, Line, Mesh, Outcome, QUESTIONS, ROOM};
 use crate::plan::Plan;
@@ -241,16 +241,11 @@ pub fn compare(report: &mut Report, plan: &Plan, build: Build) {
     builder.add_to(report, &[&NEEDED[..], &QUESTIONS[1..7]].concat());
 }
 
-/// Compares large meshes, and each buffer one short.
+/// Compares large meshes, also with a buffer one short.
 pub fn large(report: &mut Report, plan: &Plan, build: Build) {
     let mut builder = Builder::new(build, plan, "trees built of large meshes");
     for _ in 0..plan.times(1) {
-        let random = &mut builder.asker.random;
-        let mut meshes = large_meshes(random);
-        meshes.push(inputs::points(65_536, |_| {
-            [(); 3].map(|()| random.fraction())
-        }));
-        for mesh in meshes {
+        for mesh in inputs::large(&mut builder.asker.random) {
             let mut room = Room::needed(mesh.triangle_count());
             builder.ask(&mesh, room);
             *room.lengths_mut()[pick(3, &mut builder.asker.random)] -= 1;

@@ -7,7 +7,7 @@ use super::{LentTree, Tree, inputs, others};
 use crate::engine::{self, REFUSAL};
 use crate::kinds::lent::Lent;
 use crate::kinds::meshes::expected::{Bounds, refusal};
-use crate::kinds::meshes::inputs::{large as large_meshes, pick, some_of};
+use crate::kinds::meshes::inputs::{pick, some_of};
 use crate::kinds::meshes::questions::spoil;
 use crate::kinds::meshes::{LentMesh, Line, Mesh, Outcome, QUESTIONS, ROOM, buffer_length};
 use crate::plan::Plan;
@@ -37,16 +37,10 @@ impl Asker {
         }
     }
 
-    /// Checks a tree for a mesh that has these boxes.
+    /// Checks a tree for an accepted mesh that has these boxes.
     fn ask(&mut self, mesh: &Mesh, own: &[Bounds], tree: &Tree) -> u64 {
         let length = buffer_length(mesh.corners.len(), &mut self.random);
-        let want = if length < mesh.corners.len() {
-            ROOM
-        } else if keeps(&TREE_RULES, tree, own) {
-            0
-        } else {
-            BROKEN
-        };
+        let want = judged(mesh, own, tree, length);
         self.compare(mesh, tree, length, want);
         want
     }
@@ -75,6 +69,17 @@ impl Asker {
     }
 }
 
+/// What is to be answered for an accepted mesh and so many work places.
+fn judged(mesh: &Mesh, own: &[Bounds], tree: &Tree, length: usize) -> u64 {
+    if length < mesh.corners.len() {
+        ROOM
+    } else if keeps(&TREE_RULES, tree, own) {
+        0
+    } else {
+        BROKEN
+    }
+}
+
 /// Compares small meshes: with their trees, with those of other meshes, with
 /// damaged ones, and with faults of the mesh.
 pub fn compare(report: &mut Report, plan: &Plan, check: Check) {
@@ -86,44 +91,49 @@ pub fn compare(report: &mut Report, plan: &Plan, check: Check) {
     refusals(report, plan, check);
 }
 
-/// Every list of up to three nodes with small numbers, over up to five
-/// triangles, and every list of items of one leaf. The boxes are large enough.
+/// Every list of up to three nodes with starts up to 4 and counts up to 5, and
+/// every list of items up to 5 of one leaf. The boxes are large enough.
 pub(super) fn every_small_tree(report: &mut Report, plan: &Plan, check: Check) {
     let mut asker = Asker::new(check, plan, "every small one");
-    for triangles in 0..7u32 {
+    for triangles in 0..7 {
         let mesh = inputs::points(triangles, |v| [f64::from(v), 0.0, 0.0]);
         let own = own_boxes(&mesh);
-        let wide = [f64::NEG_INFINITY, f64::INFINITY].map(|edge| [edge; 3]);
-        for count in 0..4u32 {
-            // a start up to 4 and a count up to 5 are one of 30
-            for numbers in 0..30u32.pow(count) {
-                let node = |n| numbers / 30u32.pow(n) % 30;
-                let tree = Tree {
-                    boxes: [wide.as_flattened(); 3][..count as usize].concat(),
-                    nodes: (0..count)
-                        .flat_map(|n| [node(n) / 6, node(n) % 6])
-                        .collect(),
-                    items: (0..triangles).collect(),
-                };
-                asker.ask(&mesh, &own, &tree);
-            }
+        let mut ask = |tree: &Tree| {
+            let length = mesh.corners.len();
+            let want = judged(&mesh, &own, tree, length);
+            asker.compare(&mesh, tree, length, want);
+        };
+        for count in 0..4 {
+            every_list(count, 30, &mut |numbers| {
+                let nodes = numbers.iter().flat_map(|n| [n / 6, n % 6]);
+                ask(&wide_tree(nodes.collect(), (0..triangles).collect()));
+            });
         }
-        if triangles > 4 {
-            continue;
-        }
-        for length in 0..triangles + 2 {
-            for numbers in 0..6u32.pow(length) {
-                let item = |n| numbers / 6u32.pow(n) % 6;
-                let tree = Tree {
-                    boxes: wide.as_flattened().to_vec(),
-                    nodes: vec![0, triangles],
-                    items: (0..length).map(item).collect(),
-                };
-                asker.ask(&mesh, &own, &tree);
-            }
+        for length in 0..6 {
+            every_list(length, 6, &mut |items| {
+                ask(&wide_tree(vec![0, triangles], items.to_vec()));
+            });
         }
     }
     asker.line.add_to(report, &["accepted", "refusal 7"]);
+}
+
+/// Every list of so many numbers below `end`.
+fn every_list(length: u32, end: u32, ask: &mut impl FnMut(&[u32])) {
+    for code in 0..end.pow(length) {
+        let numbers: Vec<u32> = (0..length).map(|n| code / end.pow(n) % end).collect();
+        ask(&numbers);
+    }
+}
+
+/// A tree whose boxes enclose everything.
+fn wide_tree(nodes: Vec<u32>, items: Vec<u32>) -> Tree {
+    let wide = [f64::NEG_INFINITY, f64::INFINITY].map(|edge| [edge; 3]);
+    Tree {
+        boxes: vec![wide; nodes.len() / 2].as_flattened().concat(),
+        nodes,
+        items,
+    }
 }
 
 /// The builder's trees, and others that keep the rules.
@@ -252,12 +262,8 @@ pub(super) fn refusals(report: &mut Report, plan: &Plan, check: Check) {
                 _ => spoil(&mut mesh, question, random),
             }
         }
-        let want = match refusal(&mesh) {
-            Some(refusal) => refusal,
-            None if length < mesh.corners.len() => ROOM,
-            None if keeps(&TREE_RULES, &tree, &own_boxes(&mesh)) => 0,
-            None => BROKEN,
-        };
+        let want =
+            refusal(&mesh).unwrap_or_else(|| judged(&mesh, &own_boxes(&mesh), &tree, length));
         asker.compare(&mesh, &tree, length, want);
     }
     asker.line.add_to(report, &QUESTIONS);
@@ -267,7 +273,7 @@ pub(super) fn refusals(report: &mut Report, plan: &Plan, check: Check) {
 pub fn large(report: &mut Report, plan: &Plan, check: Check) {
     let mut asker = Asker::new(check, plan, "of large meshes");
     for _ in 0..plan.times(1) {
-        for mesh in large_meshes(&mut asker.random) {
+        for mesh in inputs::large(&mut asker.random) {
             let own = own_boxes(&mesh);
             let built = build(&RULE, &own).tree;
             asker.ask(&mesh, &own, &built);

@@ -4,6 +4,7 @@
 
 use crate::engine::Point;
 use crate::kinds::meshes::Mesh;
+use crate::kinds::meshes::expected::{FACES, VERTICES};
 use crate::kinds::meshes::inputs::{self, Net, Numbers, pick, shuffle};
 use crate::random::{Random, moved};
 
@@ -65,7 +66,10 @@ pub fn mesh(random: &mut Random) -> Mesh {
         _ => random.up_to_digits(7),
     };
     let net = net(count as u32, random);
-    let axes = [(); 3].map(|()| Axis::any(random));
+    let axes = match random.below(3) {
+        0 => [Axis::Apart; 3],
+        _ => [(); 3].map(|()| Axis::any(random)),
+    };
     net.mesh_at(|_| point(axes, random))
 }
 
@@ -112,6 +116,20 @@ pub fn points(count: u32, at: impl FnMut(u32) -> Point) -> Mesh {
         faces: faces.collect(),
     };
     net.mesh_at(at)
+}
+
+/// Large meshes: those of all kinds, and two with all centres apart.
+pub fn large(random: &mut Random) -> Vec<Mesh> {
+    let mut meshes = inputs::large(random);
+    meshes.push(points(VERTICES as u32, |_| point([Axis::Apart; 3], random)));
+    let corner = |_| random.below(VERTICES as u64) as u32;
+    let corners: Vec<u32> = (0..3 * FACES).map(corner).collect();
+    let net = Net {
+        vertices: VERTICES as u32,
+        faces: corners.chunks(3).map(<[_]>::to_vec).collect(),
+    };
+    meshes.push(net.mesh_at(|_| point([Axis::Apart; 3], random)));
+    meshes
 }
 
 /// The mesh with a vertex that is a corner moved: by a last bit or a few, to the
