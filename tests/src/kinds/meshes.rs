@@ -58,7 +58,7 @@ impl Mesh {
     }
 
     /// How many triangles there are, if the ends fit.
-    pub(super) fn triangle_count(&self) -> usize {
+    pub fn triangle_count(&self) -> usize {
         self.corners.len().saturating_sub(2 * self.ends.len())
     }
 
@@ -96,6 +96,15 @@ impl Mesh {
             vertices.collect(),
             self.faces().map(<[_]>::to_vec).collect(),
         )
+    }
+
+    /// Its lists, lent without guards.
+    pub fn lend(&mut self) -> engine::meshes::Mesh<'_> {
+        engine::meshes::Mesh {
+            coords: &mut self.coords,
+            corners: &mut self.corners,
+            ends: &mut self.ends,
+        }
     }
 
     pub(super) fn text(&self) -> String {
@@ -249,6 +258,29 @@ impl<F> Asker<F> {
     pub fn add_to(self, report: &mut Report, needed: &[&str], needed_of_csx: &[&str]) {
         self.rule.add_to(report, needed);
         self.csx.add_to(report, needed_of_csx);
+    }
+}
+
+/// Gives csx's zeros the sign that the engine's have, and counts the changes. csx
+/// leaves it to Rust which of two equal zeros is kept, unless it has the feature
+/// `port`: then none is changed.
+pub(super) fn take_zeros(csx: &mut [f64], engine: &[f64]) -> u64 {
+    let mut changes = 0;
+    for (x, sign) in csx.iter_mut().zip(engine) {
+        if !cfg!(feature = "port") && *x == 0.0 && *sign == 0.0 && x.to_bits() != sign.to_bits() {
+            *x = *sign;
+            changes += 1;
+        }
+    }
+    changes
+}
+
+/// Prints how many there were.
+pub(super) fn note_zeros(report: &Report, zeros: u64) {
+    if !cfg!(feature = "port") {
+        report.note(format_args!(
+            "zeros to which csx gives the other sign: {zeros}, a listed difference"
+        ));
     }
 }
 

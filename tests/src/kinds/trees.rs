@@ -11,7 +11,9 @@ mod wrong_builders;
 #[cfg(test)]
 mod wrong_checks;
 
+use self::expected::{RULE, build, own_boxes};
 use super::lent::{Lent, Wrong, cut};
+use super::meshes::Mesh;
 use super::meshes::expected::Bounds;
 use crate::engine;
 
@@ -35,6 +37,15 @@ impl Tree {
         boxes.copied()
     }
 
+    /// Its lists, lent without guards.
+    pub fn lend(&mut self) -> engine::trees::Tree<'_> {
+        engine::trees::Tree {
+            boxes: &mut self.boxes,
+            nodes: &mut self.nodes,
+            items: &mut self.items,
+        }
+    }
+
     fn text(&self) -> String {
         let Self {
             boxes,
@@ -48,6 +59,11 @@ impl Tree {
             cut(items)
         )
     }
+}
+
+/// The tree that the builder rule gives an accepted mesh.
+pub fn built(mesh: &Mesh) -> Tree {
+    build(&RULE, &own_boxes(mesh)).tree
 }
 
 /// A tree whose lists are lent.

@@ -6,7 +6,7 @@ use csx::{BoundingBox, Vec3};
 
 use super::expected::{box_of, center, grown, refusal, surface_eps, triangles};
 use super::inputs;
-use super::{Lent, LentMesh, Line, Mesh, Probe, ROOM, buffer_length};
+use super::{Lent, LentMesh, Line, Mesh, Probe, ROOM, buffer_length, note_zeros, take_zeros};
 use crate::plan::Plan;
 use crate::random::Random;
 use crate::report::{Kind, Report};
@@ -51,20 +51,13 @@ impl Asker {
         self.ask_csx(mesh, numbers.len());
     }
 
-    /// csx leaves it to Rust which of two zeros a minimum keeps, unless it has
-    /// the feature `port`: without it, zeros are equal here and counted.
     fn ask_csx(&mut self, mesh: &Mesh, length: usize) {
         let mut lent = LentMesh::new(mesh);
         let mut got = vec![0.0; length];
         (self.probe)(&mut lent.lend(), &mut got);
-        for (place, (got, want)) in got.into_iter().zip(by_csx(mesh)).enumerate() {
-            let unlike = got == 0.0 && want == 0.0 && got.to_bits() != want.to_bits();
-            let want = if unlike && !cfg!(feature = "port") {
-                self.zeros += 1;
-                got
-            } else {
-                want
-            };
+        let mut want = by_csx(mesh);
+        self.zeros += take_zeros(&mut want, &got);
+        for (place, (got, want)) in got.into_iter().zip(want).enumerate() {
             self.csx
                 .compare_for(got, want, || format!("{}, number {place}", mesh.text()));
         }
@@ -73,12 +66,7 @@ impl Asker {
     fn add_to(self, report: &mut Report, needed: &[&str]) {
         self.rule.add_to(report, needed);
         report.add(self.csx);
-        if !cfg!(feature = "port") {
-            report.note(format_args!(
-                "zeros to which csx gives the other sign: {}, a listed difference",
-                self.zeros
-            ));
-        }
+        note_zeros(report, self.zeros);
     }
 }
 

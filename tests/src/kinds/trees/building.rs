@@ -8,7 +8,9 @@ use crate::kinds::lent::Lent;
 use crate::kinds::meshes::expected::{center, refusal};
 use crate::kinds::meshes::inputs::{pick, some_of};
 use crate::kinds::meshes::questions::spoil;
-use crate::kinds::meshes::{Asker, LentMesh, Line, Mesh, Outcome, QUESTIONS, ROOM};
+use crate::kinds::meshes::{
+    Asker, LentMesh, Line, Mesh, Outcome, QUESTIONS, ROOM, note_zeros, take_zeros,
+};
 use crate::plan::Plan;
 use crate::random::Random;
 use crate::report::Report;
@@ -137,8 +139,8 @@ impl Builder {
                 return self.csx.see(format!("left out for {}", sort(built)));
             }
             csx.sort_leaves();
-            self.zeros += take_zeros(&mut csx.boxes, tree.boxes.list());
         }
+        self.zeros += take_zeros(&mut csx.boxes, tree.boxes.list());
         let wrong = tree.wrong(&csx);
         self.csx
             .compare(Outcome { answer, wrong }, want, || mesh.text());
@@ -148,12 +150,7 @@ impl Builder {
     fn add_to(self, report: &mut Report, needed: &[&str]) {
         self.asker.add_to(report, needed, &[] as &[&str]);
         self.csx.add_to(report, &["centres apart at each median"]);
-        if !cfg!(feature = "port") {
-            report.note(format_args!(
-                "zeros to which csx gives the other sign: {}, a listed difference",
-                self.zeros
-            ));
-        }
+        note_zeros(report, self.zeros);
     }
 }
 
@@ -195,19 +192,6 @@ impl Tree {
     }
 }
 
-/// Gives each zero the sign that it has in the other list, if it is one there
-/// too, and counts the changes.
-fn take_zeros(numbers: &mut [f64], signs: &[f64]) -> u64 {
-    let mut changes = 0;
-    for (x, sign) in numbers.iter_mut().zip(signs) {
-        if *x == 0.0 && *sign == 0.0 && x.to_bits() != sign.to_bits() {
-            *x = *sign;
-            changes += 1;
-        }
-    }
-    changes
-}
-
 /// What a line of small meshes has to see.
 const NEEDED: [&str; 6] = [
     "no triangles",
@@ -241,7 +225,8 @@ pub fn compare(report: &mut Report, plan: &Plan, build: Build) {
     builder.add_to(report, &[&NEEDED[..], &QUESTIONS[1..7]].concat());
 }
 
-/// Compares large meshes, also with a buffer one short.
+/// Compares large meshes, also with a buffer one short, and centres in orders that
+/// make a selection slow.
 pub fn large(report: &mut Report, plan: &Plan, build: Build) {
     let mut builder = Builder::new(build, plan, "trees built of large meshes");
     for _ in 0..plan.times(1) {
@@ -250,6 +235,11 @@ pub fn large(report: &mut Report, plan: &Plan, build: Build) {
             builder.ask(&mesh, room);
             *room.lengths_mut()[pick(3, &mut builder.asker.random)] -= 1;
             builder.ask(&mesh, room);
+        }
+        for (_, order) in inputs::ORDERS {
+            let count = 65_000 + pick(536, &mut builder.asker.random) as u32;
+            let mesh = inputs::line(count, |i| order(i, count));
+            builder.ask(&mesh, Room::needed(count as usize));
         }
     }
     builder.add_to(report, &["refusal 6"]);

@@ -65,6 +65,10 @@ pub fn mesh(random: &mut Random) -> Mesh {
         0 => 1 + random.below(20),
         _ => random.up_to_digits(7),
     };
+    if random.below(16) == 0 {
+        let (_, order) = ORDERS[pick(ORDERS.len(), random)];
+        return line(count as u32, |i| order(i, count as u32));
+    }
     let net = net(count as u32, random);
     let axes = match random.below(3) {
         0 => [Axis::Apart; 3],
@@ -116,6 +120,49 @@ pub fn points(count: u32, at: impl FnMut(u32) -> Point) -> Mesh {
         faces: faces.collect(),
     };
     net.mesh_at(at)
+}
+
+/// A mesh of points along the last axis.
+pub fn line(count: u32, mut at: impl FnMut(u32) -> f64) -> Mesh {
+    points(count, |v| [0.0, 0.0, at(v)])
+}
+
+/// The centre of a triangle along a line, given its number and their count.
+pub type Order = fn(u32, u32) -> f64;
+
+/// Orders that make a simple selection of the median slow.
+pub const ORDERS: [(&str, Order); 11] = [
+    ("ascending", |i, _| i.into()),
+    ("descending", |i, count| (count - i).into()),
+    ("ascending and then descending", |i, count| {
+        i.min(count - i).into()
+    }),
+    ("descending and then ascending", |i, count| {
+        i.abs_diff(count / 2).into()
+    }),
+    ("ascending but for the last", |i, count| {
+        ((i + 1) % count).into()
+    }),
+    ("each 1.02 times the one before", |i, count| {
+        1.02f64.powi(i as i32 - count as i32 / 2)
+    }),
+    ("all equal", |_, _| 1.0),
+    ("all infinite", |_, _| f64::MAX),
+    ("two values in turn", |i, _| (i % 2).into()),
+    ("256 values in turn", |i, _| (i % 256).into()),
+    ("the worst for a median of three", worst_of_three),
+];
+
+/// Where the median of the first, the middle and the last is always one of the
+/// least.
+fn worst_of_three(i: u32, count: u32) -> f64 {
+    let half = count / 2;
+    let value = match i {
+        i if i >= half => 2 * (i - half + 1),
+        i if i.is_multiple_of(2) => i + 1,
+        i => half + i,
+    };
+    value.into()
 }
 
 /// Large meshes: those of all kinds, and two with all centres apart.
