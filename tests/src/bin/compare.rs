@@ -4,7 +4,7 @@ use std::env;
 use std::process::ExitCode;
 
 use zirwennach_tests::engine;
-use zirwennach_tests::kinds::{corrections, meshes, order, remainder, root, rules, shapes};
+use zirwennach_tests::kinds::{corrections, meshes, order, remainder, root, rules, shapes, trees};
 use zirwennach_tests::plan::{DEFAULT_SEED, Plan};
 use zirwennach_tests::report::Report;
 
@@ -66,5 +66,7 @@ fn run(plan: &Plan) -> Report {
     meshes::keys::large(&mut report, plan, engine::meshes::edge_keys);
     meshes::welding::compare(&mut report, plan, engine::meshes::from_triangles);
     meshes::welding::limits(&mut report, plan, engine::meshes::from_triangles);
+    trees::checking::compare(&mut report, plan, engine::trees::check);
+    trees::checking::large(&mut report, plan, engine::trees::check);
     report
 }

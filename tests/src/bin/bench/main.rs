@@ -1,7 +1,9 @@
 //! Times the engine beside the hardware and csx. See README.md.
 
+mod checking;
 mod meshes;
 mod roots;
+mod spheres;
 
 use std::process::ExitCode;
 use std::time::{Duration, Instant};
@@ -10,7 +12,7 @@ fn main() -> ExitCode {
     println!(
         "Times alone mean nothing on a shared machine: the ratio, from one run, is what counts."
     );
-    let agree = [roots::run(), meshes::run()];
+    let agree = [roots::run(), meshes::run(), checking::run()];
     ExitCode::from(u8::from(agree.contains(&false)))
 }
 
@@ -26,4 +28,32 @@ fn best_times<const N: usize>(rounds: usize, mut passes: [&mut dyn FnMut(); N]) 
         }
     }
     best
+}
+
+/// Prints the times of the engine and of what it is compared with.
+fn print_row(name: &str, engine: Duration, other: &str, csx: Duration) {
+    let print_time = |name: &str, time: Duration| {
+        println!("  {name:<32}{:>10.3} ms", 1e3 * time.as_secs_f64());
+    };
+    println!("{name}");
+    print_time("engine", engine);
+    print_time(other, csx);
+    let ratio = engine.as_secs_f64() / csx.as_secs_f64();
+    println!("  the engine takes {ratio:.3} times {other}");
+}
+
+/// Says so if the answers differ.
+fn agree(agree: bool) -> bool {
+    if !agree {
+        println!("  the answers differ");
+    }
+    agree
+}
+
+/// Says so if the engine is not in time.
+fn in_time(in_time: bool) -> bool {
+    if !in_time {
+        println!("  the engine takes too long");
+    }
+    in_time
 }

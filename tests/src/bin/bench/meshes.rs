@@ -1,7 +1,6 @@
 //! What a mesh is asked before its points, and welding, beside csx.
 
 use std::hint::black_box;
-use std::time::Duration;
 
 use csx::Polyhedron;
 use csx::primitives::polyhedron::is_closed;
@@ -11,7 +10,7 @@ use zirwennach_tests::kinds::meshes::inputs::{on_torus, torus};
 use zirwennach_tests::kinds::meshes::welding::{apart_triangles, csx_triangles, torus_triangles};
 use zirwennach_tests::random::Random;
 
-use crate::best_times;
+use crate::{agree, best_times, in_time, print_row};
 
 /// How many rounds are run, of which the best counts.
 const ROUNDS: usize = 100;
@@ -51,11 +50,7 @@ fn prepare(name: &str, mut mesh: Mesh) -> bool {
     let faces: Vec<Vec<u32>> = mesh.faces().map(<[_]>::to_vec).collect();
     let mut work = vec![0; mesh.corners.len()];
     let mut out = [0.0; 7];
-    let mut lists = engine::Mesh {
-        coords: &mut mesh.coords,
-        corners: &mut mesh.corners,
-        ends: &mut mesh.ends,
-    };
+    let mut lists = mesh.lend();
     let mut closed = 0;
     let mut closed_by_csx = false;
     let [engine, csx] = best_times(
@@ -73,15 +68,14 @@ fn prepare(name: &str, mut mesh: Mesh) -> bool {
 fn weld(name: &str, mut triangles: Vec<f64>) -> bool {
     let soup = csx_triangles(&triangles);
     let count = soup.len();
-    let (mut coords, mut corners, mut ends) =
-        (vec![0.0; 9 * count], vec![0; 3 * count], vec![0; count]);
+    let mut mesh = Mesh {
+        coords: vec![0.0; 9 * count],
+        corners: vec![0; 3 * count],
+        ends: vec![0; count],
+    };
     let mut sizes = [0; 2];
     let mut welded = engine::Welded {
-        mesh: engine::Mesh {
-            coords: &mut coords,
-            corners: &mut corners,
-            ends: &mut ends,
-        },
+        mesh: mesh.lend(),
         sizes: &mut sizes,
     };
     let mut answer = 0;
@@ -97,29 +91,4 @@ fn weld(name: &str, mut triangles: Vec<f64>) -> bool {
     agree(by_csx.is_some_and(|csx| {
         answer == 0 && sizes == [csx.vertices().len(), csx.faces().len()].map(|n| n as u64)
     }))
-}
-
-fn print_row(name: &str, engine: Duration, other: &str, csx: Duration) {
-    let print_time = |name: &str, time: Duration| {
-        println!("  {name:<32}{:>10.3} ms", 1e3 * time.as_secs_f64());
-    };
-    println!("{name}");
-    print_time("engine", engine);
-    print_time(other, csx);
-    let ratio = engine.as_secs_f64() / csx.as_secs_f64();
-    println!("  the engine takes {ratio:.2} times {other}");
-}
-
-fn agree(agree: bool) -> bool {
-    if !agree {
-        println!("  the answers differ");
-    }
-    agree
-}
-
-fn in_time(in_time: bool) -> bool {
-    if !in_time {
-        println!("  the engine takes too long");
-    }
-    in_time
 }
