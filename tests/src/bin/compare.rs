@@ -66,6 +66,8 @@ fn run(plan: &Plan) -> Report {
     meshes::keys::large(&mut report, plan, engine::meshes::edge_keys);
     meshes::welding::compare(&mut report, plan, engine::meshes::from_triangles);
     meshes::welding::limits(&mut report, plan, engine::meshes::from_triangles);
+    trees::building::compare(&mut report, plan, engine::trees::build);
+    trees::building::large(&mut report, plan, engine::trees::build);
     trees::checking::compare(&mut report, plan, engine::trees::check);
     trees::checking::large(&mut report, plan, engine::trees::check);
     report

@@ -1,5 +1,6 @@
 //! Times the engine beside the hardware and csx. See README.md.
 
+mod building;
 mod checking;
 mod meshes;
 mod roots;
@@ -12,7 +13,12 @@ fn main() -> ExitCode {
     println!(
         "Times alone mean nothing on a shared machine: the ratio, from one run, is what counts."
     );
-    let agree = [roots::run(), meshes::run(), checking::run()];
+    let agree = [
+        roots::run(),
+        meshes::run(),
+        building::run(),
+        checking::run(),
+    ];
     ExitCode::from(u8::from(agree.contains(&false)))
 }
 
