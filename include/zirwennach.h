@@ -94,6 +94,23 @@ uint64_t csx_from_triangles(const double *triangles, size_t triangles_length, do
    - A path from the root to a leaf has at most 32 nodes.
    - The lists have exactly the lengths that this needs. */
 
+/* Builds the tree of a mesh: each node with more than four triangles is split in half. boxes needs 6 and
+   nodes 2 places a triangle, items 1. The first places of each then hold the tree; what lies past them is
+   unchanged. The buffers must not overlap. Returns the number of nodes n: boxes has 6 * n and nodes 2 * n
+   written places, items one a triangle, and the lists are lent on cut to these lengths. Or:
+     1,000,000           coords is no multiple of 3 numbers, or has more than 65,536 vertices
+     2,000,000           there are more than 65,536 faces or 262,144 corners, the ends fall, or the last
+                         of them (0 if there is none) is not the number of corners
+     3,000,000 + face    this face, counted from 0, has fewer than three corners
+     4,000,000 + face    a corner of this face is no vertex; asked of each face right after 3
+     5,000,000 + vertex  a coordinate of this vertex, counted from 0, is infinite or NaN
+     6,000,000           boxes, nodes or items has fewer places than are needed
+   A refused call changes nothing. */
+uint64_t csx_build_tree(const double *coords, size_t coords_length, const uint32_t *corners,
+                        size_t corners_length, const uint32_t *ends, size_t ends_length, double *boxes,
+                        size_t boxes_length, uint32_t *nodes, size_t nodes_length, uint32_t *items,
+                        size_t items_length);
+
 /* Checks that a tree keeps these rules for a mesh. The buffers must not overlap. Returns 0 if it does, or:
      1,000,000           coords is no multiple of 3 numbers, or has more than 65,536 vertices
      2,000,000           there are more than 65,536 faces or 262,144 corners, the ends fall, or the last

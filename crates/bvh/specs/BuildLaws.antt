@@ -15,6 +15,7 @@ use Rattle.keys.specs.Permutations.{length-permuted}
 use Rattle.lent.specs.Over.{over, over-nothing, over-stores}
 use Rattle.refusal.specs.declared.Refusal.{Refusal}
 use Rattle.refusal.specs.declared.Refusal.the-variants as Refusals
+use Rattle.refusal.specs.declared.Verdict.{Verdict}
 use Rattle.refusal.specs.declared.Verdict.the-variants as Verdicts
 use Rattle.refusal.specs.Verdicts.{ask, written, ask-passed, then-passed}
 use Rattle.mesh.specs.Questions.{askMesh}
@@ -279,3 +280,17 @@ module _ (m : Mesh) (boxes₀ : List Float) (nodes₀ items₀ : List ℕ) where
             nodes = rw (passed, layout-lists) (w .nodes ∙ rw same nodes);
             items = rw (passed, layout-lists, w .items, same) whole;
           }
+
+-- ---- what an answer says
+
+-- an answer of nodes: the questions passed, and these are the nodes
+pub answer-nodes : (v : Verdict) (m : Mesh) (count : ℕ) → Nodes count ≡ buildAnswer v m → (v ≡ Verdicts.Passed) × (count ≡ nodeCount (layout m))
+unfolding buildAnswer
+answer-nodes Verdicts.Passed m count e = (refl, cc)
+answer-nodes (Verdicts.Refused refusal) m count e = (cc, cc)
+
+-- a refusal: it is the verdict
+pub answer-refused : (v : Verdict) (m : Mesh) (refusal : Refusal) → Refused refusal ≡ buildAnswer v m → v ≡ Verdicts.Refused refusal
+unfolding buildAnswer
+answer-refused Verdicts.Passed m refusal e = cc
+answer-refused (Verdicts.Refused other) m refusal e = cc
