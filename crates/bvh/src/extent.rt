@@ -84,7 +84,8 @@ fn extent_of(coords: &[f64], corners: &[u32], ends: &[u32], sides: usize, items:
     };
     let mut j = 0;
     while j < items.len() {
-        e = extend(e, own_box(coords, corners, ends, sides, items[j]));
+        let triangle = mesh::triangles::triangle(corners, ends, sides, items[j] as usize);
+        e = extend(e, mesh::boxes::triangle_box(coords, triangle));
         j += 1;
     }
     e

@@ -4,9 +4,12 @@ use Prim.Native.Nat.{_≤_, _-_}
 use native.Mathlib.Omega.{arith}
 use mathlib.Core.Path.{_≡_, sym, _∙_}
 use mathlib.Core.List.{[]}
-use lib.ListN.{length, drop, drop-of-length-le}
+use lib.ListN.{length, getD, drop, drop-of-length-le}
 use borrow.Author.Needs.{needs}
-use Rattle.bvh.specs.Tree.{mesh}
+use Rattle.mesh.specs.Accepted.{fanned}
+use Rattle.mesh.specs.Triangles.{triangle}
+use Rattle.mesh.specs.Corners.{triangle-corners}
+use Rattle.bvh.specs.Tree.{mesh, ownBox}
 use Rattle.bvh.specs.Extent.{nothing, extendAll, extentOf}
 use Rattle.bvh.specs.ExtentLoops.{extendAll-next}
 use Rattle.bvh.proofs.extent.extent_of.Statement.{statement}
@@ -29,38 +32,47 @@ loop-holds : tie.Need-loop-holds Inv-loop μ-loop
 unfolding extentOf nothing
 loop-holds c = (omega arith, rw (c .before .empty .ensures, c .empty2 .ensures))
 
-mul-own-box : tie.Need-mul-own-box Inv-loop μ-loop
-mul-own-box c = search needs
+mul-triangle : tie.Need-mul-triangle Inv-loop μ-loop
+mul-triangle c = search needs
 
-shared-slice-read-own-box : tie.Need-shared-slice-read-own-box Inv-loop μ-loop
-shared-slice-read-own-box c = search needs
+shared-slice-read-triangle : tie.Need-shared-slice-read-triangle Inv-loop μ-loop
+shared-slice-read-triangle c = search needs
 
-own-box-requires : tie.Need-own-box-requires Inv-loop μ-loop
-own-box-requires c κs =
+cast-triangle : tie.Need-cast-triangle Inv-loop μ-loop
+cast-triangle c = omega (arith, c .shared-slice-known5 .given (c .before .before .loop .j))
+
+triangle-requires : tie.Need-triangle-requires Inv-loop μ-loop
+triangle-requires c κs =
     let known = c .before .before .before .before .before .before .before .before .before .pre in
-    (known .accepted, known .sides, known .below (c .before .before .loop .j) (omega arith))
+    (fanned (known .accepted), known .sides, known .below (c .before .before .loop .j) (c .before .loop-test .taken))
+
+triangle-box-requires : tie.Need-triangle-box-requires Inv-loop μ-loop
+triangle-box-requires c κs =
+    let start = c .before .before .before .before .before .before .before .before .before .before in
+    rw (c .triangle .ensures) (triangle-corners _ _ _ (start .pre .accepted) (getD (start .args .items .now) (c .before .before .before .loop .j) 0) (triangle 0 0 0) (start .pre .below (c .before .before .before .loop .j) (c .before .before .loop-test .taken)))
 
 extend-requires : tie.Need-extend-requires Inv-loop μ-loop
 extend-requires c κs = search needs
 
 add-j : tie.Need-add-j Inv-loop μ-loop
-add-j c = omega (arith, c .before .before .before .before .before .before .before .before .before .before .before .good .1 .1 .1 .1 .0 .0)
+add-j c = omega (arith, c .before .before .before .before .loop-test .taken, c .before .before .before .before .before .before .before .before .before .before .before .before .good .1 .1 .1 .1 .0 .0)
 
 loop-less : tie.Need-loop-less Inv-loop μ-loop
-loop-less c = search needs
+loop-less c = omega (arith, c .before .before .before .before .loop-test .taken)
 
 loop-again : tie.Need-loop-again Inv-loop μ-loop
+unfolding ownBox
 loop-again c =
-    let a = c .before .before .before .before .before .before .before .before .before .before .before .args in
+    let a = c .before .before .before .before .before .before .before .before .before .before .before .before .args in
     let m = mesh (a .coords .now) (a .corners .now) (a .ends .now) in
-    let next = extendAll-next m (c .before .before .before .before .loop .e) (a .items .now) (c .before .before .before .before .loop .j) (omega arith) in
-    (omega arith, rw (c .extend .ensures, c .before .own-box .ensures) (sym next ∙ c .before .before .before .before .loop .inv .1))
+    let next = extendAll-next m (c .before .before .before .before .before .loop .e) (a .items .now) (c .before .before .before .before .before .loop .j) (c .before .before .before .before .loop-test .taken) in
+    (omega (arith, c .before .before .before .before .loop-test .taken), rw (c .extend .ensures, c .before .triangle-box .ensures, c .before .before .triangle .ensures) (sym next ∙ c .before .before .before .before .before .loop .inv .1))
 
 returns : tie.Need-returns Inv-loop μ-loop
 unfolding extendAll
 returns c =
     let a = c .before .before .before .before .before .before .before .before .args in
-    let past : length (a .items .now) ≤ c .before .loop .j = omega arith in
+    let past : length (a .items .now) ≤ c .before .loop .j = c .loop-test .left in
     let none : drop (c .before .loop .j) (a .items .now) ≡ [] = drop-of-length-le (a .items .now) past in
     rw none at (c .before .loop .inv .1)
 
@@ -73,9 +85,11 @@ extent-of-spec =
     empty-requires
     empty-requires-2
     loop-holds
-    mul-own-box
-    shared-slice-read-own-box
-    own-box-requires
+    mul-triangle
+    shared-slice-read-triangle
+    cast-triangle
+    triangle-requires
+    triangle-box-requires
     extend-requires
     add-j
     loop-less
