@@ -16,10 +16,11 @@ use Rattle.refusal.specs.Verdicts.{ask, then, written}
 use Rattle.mesh.specs.Questions.{askMesh}
 use Rattle.mesh.specs.Accepted.{Accepted}
 use Rattle.bvh.specs.declared.build.Built.{Built}
+use Rattle.bvh.specs.declared.build.Subtree.{Subtree}
 use Rattle.bvh.specs.declared.build.Built.the-variants.{Refused, Nodes}
 use Rattle.bvh.specs.Tree.{Mesh, triangleCount, nodeCount}
 use Rattle.bvh.specs.Node.{Items}
-use Rattle.bvh.specs.Builder.{treeOver, size, boxList, nodeList, itemList, layout}
+use Rattle.bvh.specs.Builder.{nodeBox, treeOver, size, boxList, nodeList, itemList, layout}
 
 -- ---- the public entry
 
@@ -66,9 +67,10 @@ pub record Whole (m : Mesh) (boxes nodes items : ℕ) : Type 0 where
   pub for-boxes : 6 * triangleCount m ≤ boxes
   pub for-nodes : 2 * triangleCount m ≤ nodes
 
--- what `build_node` promises: the next free node, and of each buffer, lent as ₀ and left as ₁, the subtree from node n and item place i on
-pub record Writes (m : Mesh) (boxes₀ : List Float) (nodes₀ items₀ : List ℕ) (n i next : ℕ) (boxes₁ : List Float) (nodes₁ items₁ : List ℕ) : Type 0 where
-  pub end : next ≡ n + size (treeOver m (sorted items₀))
+-- what `build_node` promises: the next free node, the root's box, and of each buffer, lent as ₀ and left as ₁, the subtree from node n and item place i on
+pub record Writes (m : Mesh) (boxes₀ : List Float) (nodes₀ items₀ : List ℕ) (n i : ℕ) (result : Subtree) (boxes₁ : List Float) (nodes₁ items₁ : List ℕ) : Type 0 where
+  pub end : result .end ≡ n + size (treeOver m (sorted items₀))
+  pub bounds : result .bounds ≡ nodeBox m (sorted items₀)
   pub boxes : boxes₁ ≡ sets boxes₀ (6 * n) (boxList (treeOver m (sorted items₀)))
   pub nodes : nodes₁ ≡ sets nodes₀ (2 * n) (nodeList n i (treeOver m (sorted items₀)))
   pub items : items₁ ≡ itemList (treeOver m (sorted items₀))

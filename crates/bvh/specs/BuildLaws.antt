@@ -6,12 +6,12 @@ use mathlib.Core.Path.{_≡_, refl, sym, ap, _∙_}
 use mathlib.Core.Bool.{true}
 use mathlib.Core.List.{List, [], _∷_, _++_}
 use lib.Ieee.{Float}
-use lib.ListN.{length, getD, set, take, drop, length-drop}
-use lib.Seq.{sets, set-comm, length-take-le}
+use lib.ListN.{length, getD, set, take, drop, length-drop, take-append-drop}
+use lib.Seq.{sets, set-comm, length-take-le, take-at, drop-at}
 use borrow.Author.Tests.{leb-true, eq-eqb, ne-eqb}
-use Rattle.keys.specs.Sorting.{sorted}
-use Rattle.keys.specs.SortingTheorems.{length-sorted}
-use Rattle.keys.specs.Permutations.{length-permuted}
+use Rattle.keys.specs.Sorting.{sorted, count, Permutation}
+use Rattle.keys.specs.SortingTheorems.{length-sorted, count-sorted, sorted-permuted}
+use Rattle.keys.specs.Permutations.{count-append, length-permuted}
 use Rattle.lent.specs.Over.{over, over-nothing, over-stores}
 use Rattle.refusal.specs.declared.Refusal.{Refusal}
 use Rattle.refusal.specs.declared.Refusal.the-variants as Refusals
@@ -23,11 +23,12 @@ use Rattle.mesh.specs.Walks.{both}
 use Rattle.mesh.specs.Triangles as Triangles
 use Rattle.mesh.specs.Accepted.{Accepted, accepted}
 use Rattle.bvh.specs.declared.build.Built.the-variants.{Refused, Nodes}
+use Rattle.bvh.specs.declared.build.Subtree.{Subtree}
 use Rattle.bvh.specs.Tree.{Mesh, triangleCount, nodeCount}
 use Rattle.bvh.specs.TreeTest.{triangleCount-accepted}
 use Rattle.bvh.specs.Node.{Items, items-permuted, items-take, items-drop}
 use Rattle.bvh.specs.Builder.{splitAxis, nodeBox, edges, BoxTree, leafNode, innerNode, treeOver, builderTree, numbers, size, boxList, nodeList, itemList, lists, layout}
-use Rattle.bvh.specs.BuilderLaws.{treeOver-leaf, treeOver-inner, length-treeOver, length-boxList, length-nodeList, length-numbers, getD-numbers}
+use Rattle.bvh.specs.BuilderLaws.{treeOver-leaf, treeOver-inner, count-treeOver, length-treeOver, length-boxList, length-nodeList, length-numbers, getD-numbers}
 use Rattle.bvh.specs.BuilderSize.{size-le, nodeCount-some, nodeCount-none}
 use Rattle.bvh.specs.Leaf.{ordered-sorted}
 use Rattle.bvh.specs.Median.{Selected}
@@ -51,6 +52,19 @@ module _ {A : Type 0} where
   set-sets l i j x [] h = refl
   set-sets l i j x (v ∷ vs) h = set-sets (set l j v) i (suc j) x vs (omega arith) ∙ rw (set-comm l j i v x (λ e. omega arith))
 
+  -- so may stores that end before them
+  sets-before : (l : List A) (i j : ℕ) (a b : List A) → i + length a ≤ j → sets (sets l j b) i a ≡ sets (sets l i a) j b
+  sets-before l i j [] b h = refl
+  sets-before l i j (x ∷ a) b h = rw (set-sets l i j x b (omega arith)) (sets-before (set l i x) (suc i) j a b (omega arith))
+
+  -- stores of three lists, the first of which comes last
+  node-stores : (l : List A) (i j k : ℕ) (a b c : List A) → j ≡ i + length a → k ≡ j + length b → sets (sets (sets l j b) k c) i a ≡ sets l i (a ++ (b ++ c))
+  node-stores l i j k a b c e f =
+      let last = sets-before (sets l j b) i k a c (omega arith) in
+      let first = sets-before l i j a b (omega arith) in
+      let parts : sets l i (a ++ (b ++ c)) ≡ sets (sets (sets l i a) j b) k c = rw (f, e) (sets-append l i a (b ++ c) ∙ sets-append (sets l i a) (i + length a) b c) in
+      last ∙ (rw first (sym parts))
+
 -- ---- a node
 
 size-some : (t : BoxTree) → 1 ≤ size t
@@ -64,22 +78,19 @@ room-one {m} {items = items} room =
     let some = size-some (treeOver m (sorted items)) in
     (omega (arith, room .for-boxes), omega (arith, room .for-nodes))
 
-module _ (m : Mesh) (boxes : List Float) (nodes items : List ℕ) (n i : ℕ) where
-  -- the list of boxes with that of the node
-  abbrev pub boxed : List Float
-  boxed = sets boxes (6 * n) (edges (nodeBox m (sorted items)))
-
-  -- a leaf
-  pub leaf-writes : length items ≤ 4 → Writes m boxes nodes items n i (n + 1) boxed (set (set nodes (2 * n) i) (2 * n + 1) (length items)) (sorted items)
-  leaf-writes few =
-      let l = sorted items in
-      let tree = treeOver-leaf m l (rw (length-sorted items) few) in
-      record {
-        end = rw tree (unfold size in refl);
-        boxes = rw tree (unfold boxList in refl);
-        nodes = rw tree (unfold nodeList in rw (length-sorted items, add-one (2 * n)));
-        items = rw tree (unfold itemList in refl);
-      }
+-- a leaf
+pub leaf-writes : (m : Mesh) (boxes : List Float) (nodes items : List ℕ) (n i : ℕ) (result : Subtree) → length items ≤ 4 → result .end ≡ n + 1 → result .bounds ≡ nodeBox m (sorted items)
+    → Writes m boxes nodes items n i result (sets boxes (6 * n) (edges (result .bounds))) (set (set nodes (2 * n) i) (2 * n + 1) (length items)) (sorted items)
+leaf-writes m boxes nodes items n i result few end bounds =
+    let l = sorted items in
+    let tree = treeOver-leaf m l (rw (length-sorted items) few) in
+    record {
+      end = rw tree (unfold size in end);
+      bounds = bounds;
+      boxes = rw (tree, bounds) (unfold boxList in refl);
+      nodes = rw tree (unfold nodeList in rw (length-sorted items, add-one (2 * n)));
+      items = rw tree (unfold itemList in refl);
+    }
 
 -- an inner node: the items, lent as ₀, after the median split
 module _ (m : Mesh) (sides axis n i : ℕ) (boxes₀ : List Float) (nodes₀ items₀ items : List ℕ) (room : Room m sides (length boxes₀) (length nodes₀) items₀ n i) (axis-is : axis ≡ splitAxis m (sorted items₀)) (split : Selected m axis (length items₀ / 2) items₀ items) (many : 4 < length items₀) where
@@ -107,13 +118,13 @@ module _ (m : Mesh) (sides axis n i : ℕ) (boxes₀ : List Float) (nodes₀ ite
   sizes = rw tree (unfold size in refl)
 
   -- the room for the left half, in lists of the same lengths
-  pub left-room : (boxes nodes : ℕ) → boxes ≡ length boxes₀ → nodes ≡ length nodes₀ → Room m sides boxes nodes (take half items) (n + 1) i
-  left-room boxes nodes e f =
+  pub left-room : Room m sides (length boxes₀) (length nodes₀) (take half items) (n + 1) i
+  left-room =
       record {
         given = items-take items all-items half;
         some = omega (arith, length-take-le half items (omega (arith, long)));
-        for-boxes = omega (arith, room .for-boxes, sizes, e);
-        for-nodes = omega (arith, room .for-nodes, sizes, f);
+        for-boxes = omega (arith, room .for-boxes, sizes);
+        for-nodes = omega (arith, room .for-nodes, sizes);
         few-nodes = omega (arith, room .few-nodes, sizes);
         few-items = omega (arith, room .few-items, length-take-le half items (omega (arith, long)));
       }
@@ -130,48 +141,67 @@ module _ (m : Mesh) (sides axis n i : ℕ) (boxes₀ : List Float) (nodes₀ ite
         few-items = omega (arith, room .few-items, length-drop half items, long);
       }
 
-  -- the numbers of the node and what lies before the right half are small
-  pub right-small : (next : ℕ) → next ≡ n + 1 + size left → next < 4294967296
-  right-small next e = omega (arith, room .few-nodes, sizes, e)
+  module _ (boxes₁ boxes₂ : List Float) (nodes₁ nodes₂ items₁ items₂ : List ℕ) (first second : Subtree) (wrote : Writes m boxes₀ nodes₀ (take half items) (n + 1) i first boxes₁ nodes₁ items₁) (writes : Writes m boxes₁ nodes₁ (drop half items) (first .end) (i + half) second boxes₂ nodes₂ items₂) where
+    -- the written items of a half are that half in some order
+    half-items : (part : List ℕ) → Permutation (itemList (treeOver m (sorted part))) part
+    half-items part k = count-treeOver m (sorted part) k ∙ count-sorted k part
 
-  module _ (boxes₁ boxes₂ : List Float) (nodes₁ nodes₂ items₁ items₂ : List ℕ) (next last : ℕ)
-      (first : Writes m (boxed m boxes₀ nodes₀ items₀ n i) nodes₀ (take half items) (n + 1) i next boxes₁ nodes₁ items₁)
-      (second : Writes m boxes₁ (set (set nodes₁ (2 * n) next) (2 * n + 1) 0) (drop half items) next (i + half) last boxes₂ nodes₂ items₂) where
-    long-left : length (itemList left) ≡ half
-    long-left = length-treeOver m (sorted (take half items)) ∙ (length-sorted (take half items) ∙ length-take-le half items (omega (arith, long)))
+    pub written-same : Permutation (items₁ ++ items₂) items₀
+    written-same k =
+        let left-same : count k items₁ ≡ count k (take half items) = rw (wrote .items) (half-items (take half items) k) in
+        let right-same : count k items₂ ≡ count k (drop half items) = rw (writes .items) (half-items (drop half items) k) in
+        let whole : count k (take half items ++ drop half items) ≡ count k items₀ = rw (take-append-drop half items) (split .same k) in
+        omega (arith, count-append k items₁ items₂, left-same, right-same, count-append k (take half items) (drop half items), whole)
 
-    boxes-written : boxes₂ ≡ sets boxes₀ (6 * n) (boxList (innerNode (nodeBox m (sorted items₀)) left right))
-    unfolding boxList
-    boxes-written =
-        let own = edges (nodeBox m (sorted items₀)) in
-        let at-left : 6 * (n + 1) ≡ 6 * n + 6 = omega arith in
-        let at-right : 6 * next ≡ 6 * n + 6 + length (boxList left) = omega (arith, first .end, length-boxList left) in
-        let parts = sets-append boxes₀ (6 * n) own (boxList left ++ boxList right) ∙ sets-append (sets boxes₀ (6 * n) own) (6 * n + 6) (boxList left) (boxList right) in
-        second .boxes ∙ (rw (first .boxes, at-left, at-right) (sym parts))
+    pub written-items : Items m sides (items₁ ++ items₂)
+    written-items = items-permuted items₀ (room .given) (items₁ ++ items₂) written-same
 
-    nodes-written : nodes₂ ≡ sets nodes₀ (2 * n) (nodeList n i (innerNode (nodeBox m (sorted items₀)) left right))
-    unfolding nodeList
-    nodes-written =
-        let r = n + 1 + size left in
-        let below = nodeList (n + 1) i left in
-        let own = set (set nodes₀ (2 * n) r) (suc (2 * n)) 0 in
-        let at-left : 2 * (n + 1) ≡ suc (suc (2 * n)) = omega arith in
-        let at-right : 2 * r ≡ suc (suc (2 * n)) + length below = omega (arith, length-nodeList (n + 1) i left) in
-        let moved : set (set (sets nodes₀ (suc (suc (2 * n))) below) (2 * n) r) (suc (2 * n)) 0 ≡ sets own (suc (suc (2 * n))) below =
-        rw (set-sets nodes₀ (2 * n) (suc (suc (2 * n))) r below (omega arith)) (set-sets (set nodes₀ (2 * n) r) (suc (2 * n)) (suc (suc (2 * n))) 0 below (omega arith))
-        in
-        let parts = sets-append own (suc (suc (2 * n))) below (nodeList r (i + half) right) in
-        second .nodes ∙ (rw (first .nodes, first .end, add-one (2 * n), at-left, moved, at-right, long-left) (sym parts))
+    long-first : length items₁ ≡ half
+    long-first = rw (wrote .items) (length-treeOver m (sorted (take half items)) ∙ (length-sorted (take half items) ∙ length-take-le half items (omega (arith, long))))
 
-    -- both halves
-    pub inner-writes : Writes m boxes₀ nodes₀ items₀ n i last boxes₂ nodes₂ (items₁ ++ items₂)
-    inner-writes =
-        record {
-          end = omega (arith, first .end, second .end, sizes);
-          boxes = rw tree boxes-written;
-          nodes = rw tree nodes-written;
-          items = rw (tree, first .items, second .items) (unfold itemList in refl);
-        }
+    -- the halves of the written items have the boxes of the subtrees
+    pub first-bounds : first .bounds ≡ nodeBox m (sorted (take half (items₁ ++ items₂)))
+    first-bounds = wrote .bounds ∙ ap (nodeBox m) (sym (rw (take-at items₁ items₂ half long-first, wrote .items) (sorted-permuted _ _ (half-items (take half items)))))
+
+    pub second-bounds : second .bounds ≡ nodeBox m (sorted (drop half (items₁ ++ items₂)))
+    second-bounds = writes .bounds ∙ ap (nodeBox m) (sym (rw (drop-at items₁ items₂ half long-first, writes .items) (sorted-permuted _ _ (half-items (drop half items)))))
+
+    -- and their places
+    pub halves-places : (0 < half) × (half < length (items₁ ++ items₂))
+    halves-places = (omega arith, omega (arith, length-permuted (items₁ ++ items₂) items₀ written-same))
+
+    pub small-node : first .end < 4294967296
+    small-node = omega (arith, room .few-nodes, sizes, wrote .end)
+
+    module _ (result : Subtree) (bounds : result .bounds ≡ nodeBox m (sorted (items₁ ++ items₂))) (end : result .end ≡ second .end) where
+      own : result .bounds ≡ nodeBox m (sorted items₀)
+      own = bounds ∙ ap (nodeBox m) (sorted-permuted (items₁ ++ items₂) items₀ written-same)
+
+      boxes-written : sets boxes₂ (6 * n) (edges (result .bounds)) ≡ sets boxes₀ (6 * n) (boxList (innerNode (nodeBox m (sorted items₀)) left right))
+      unfolding boxList
+      boxes-written =
+          let at-right : 6 * first .end ≡ 6 * (n + 1) + length (boxList left) = omega (arith, wrote .end, length-boxList left) in
+          rw (own, writes .boxes, wrote .boxes) (node-stores boxes₀ (6 * n) (6 * (n + 1)) (6 * first .end) (edges (nodeBox m (sorted items₀))) (boxList left) (boxList right) (omega arith) at-right)
+
+      nodes-written : set (set nodes₂ (2 * n) (first .end)) (2 * n + 1) 0 ≡ sets nodes₀ (2 * n) (nodeList n i (innerNode (nodeBox m (sorted items₀)) left right))
+      unfolding nodeList
+      nodes-written =
+          let r = n + 1 + size left in
+          let below = nodeList (n + 1) i left in
+          let at-right : 2 * r ≡ 2 * (n + 1) + length below = omega (arith, length-nodeList (n + 1) i left) in
+          let long-left : length (itemList left) ≡ half = sym (ap length (wrote .items)) ∙ long-first in
+          rw (writes .nodes, wrote .nodes, wrote .end, add-one (2 * n), long-left) (node-stores nodes₀ (2 * n) (2 * (n + 1)) (2 * r) (r ∷ 0 ∷ []) below (nodeList r (i + half) right) (omega arith) at-right)
+
+      -- both halves
+      pub inner-writes : Writes m boxes₀ nodes₀ items₀ n i result (sets boxes₂ (6 * n) (edges (result .bounds))) (set (set nodes₂ (2 * n) (first .end)) (2 * n + 1) 0) (items₁ ++ items₂)
+      inner-writes =
+          record {
+            end = omega (arith, end, wrote .end, writes .end, sizes);
+            bounds = own;
+            boxes = rw tree boxes-written;
+            nodes = rw tree nodes-written;
+            items = rw (tree, wrote .items, writes .items) (unfold itemList in refl);
+          }
 
 -- ---- the whole tree
 
@@ -262,10 +292,10 @@ module _ (m : Mesh) (boxes₀ : List Float) (nodes₀ items₀ : List ℕ) where
       layout-lists = rw (ne-eqb (triangleCount m) 0 (λ none. omega arith))
 
       -- the tree that was written
-      pub builds-all : (count : ℕ) (boxes₁ : List Float) (nodes₁ items₁ : List ℕ) → Writes m boxes₀ nodes₀ (numbers 0 (triangleCount m)) 0 0 count boxes₁ nodes₁ items₁
-          → Builds m boxes₀ nodes₀ items₀ (Nodes count) boxes₁ nodes₁ (items₁ ++ drop (triangleCount m) items₀)
+      pub builds-all : (result : Subtree) (boxes₁ : List Float) (nodes₁ items₁ : List ℕ) → Writes m boxes₀ nodes₀ (numbers 0 (triangleCount m)) 0 0 result boxes₁ nodes₁ items₁
+          → Builds m boxes₀ nodes₀ items₀ (Nodes (result .end)) boxes₁ nodes₁ (items₁ ++ drop (triangleCount m) items₀)
       unfolding written buildAnswer lists
-      builds-all count boxes₁ nodes₁ items₁ w =
+      builds-all result boxes₁ nodes₁ items₁ w =
           let all = numbers 0 (triangleCount m) in
           let same = sorted-numbers (triangleCount m) in
           let tree = treeOver m all in

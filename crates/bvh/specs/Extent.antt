@@ -1,10 +1,10 @@
--- What the builder measures of a node's items in the order in which they stand: the join of their own boxes and, on each axis, the lowest and
--- the highest finite centre; the axis of the greatest spread; and the edges of the node's box. Definitions only; specs/ExtentLaws.antt says
+-- What the builder measures of a node's items in the order in which they stand: on each axis the lowest and the highest finite centre; the axis
+-- of the greatest spread; and the edges of the node's box, which an inner node has from its halves. Definitions only; specs/ExtentLaws.antt says
 -- that the order does not matter.
 use Prim.Native.Nat.{ℕ}
-use mathlib.Core.Bool.{Bool, true, false, cond, _&&_}
+use mathlib.Core.Bool.{Bool, true, false, not, cond, _&&_}
 use mathlib.Core.List.{List, [], _∷_}
-use lib.Dec.{leb}
+use lib.Dec.{leb, eqb}
 use lib.Ieee.{Float, eq}
 use Rattle.float.specs.Arithmetic.{zero}
 use Rattle.float.specs.Rules as Rules
@@ -13,13 +13,12 @@ use Rattle.keys.specs.Sorting.{sorted}
 use Rattle.math.specs.declared.Vec3.{Vec3}
 use Rattle.math.specs.declared.BoundingBox.{BoundingBox}
 use Rattle.math.specs.Vectors.{vec, component}
-use Rattle.math.specs.Boxes.{box, empty, center}
-use Rattle.bvh.specs.declared.extent.Extent.{Extent}
+use Rattle.math.specs.Boxes.{box}
 use Rattle.bvh.specs.declared.extent.Found.{Found}
 use Rattle.bvh.specs.Tree.{Mesh, ownBox}
-use Rattle.bvh.specs.Builder.{join}
+use Rattle.bvh.specs.Builder.{centerOf}
 
--- ---- the extent
+-- ---- the centres
 
 -- the lower of `lo` and a centre; one that is not finite does not count
 unfoldable pub lower : Float → Float → Float
@@ -36,22 +35,10 @@ withCenter b c =
     (vec (lower (b .min .x) (c .x)) (lower (b .min .y) (c .y)) (lower (b .min .z) (c .z)))
     (vec (higher (b .max .x) (c .x)) (higher (b .max .y) (c .y)) (higher (b .max .z) (c .z)))
 
--- an extent, and one own box more
-unfoldable pub extend : Extent → BoundingBox → Extent
-extend e b = record { joined = join (e .joined) b; centers = withCenter (e .centers) (center b) }
-
--- the extent of no items
-unfoldable pub nothing : Extent
-nothing = record { joined = empty; centers = empty }
-
--- an extent, and the own boxes of triangles in their order
-unfoldable pub extendAll : Mesh → Extent → List ℕ → Extent
-extendAll m e [] = e
-extendAll m e (t ∷ rest) = extendAll m (extend e (ownBox m t)) rest
-
--- the extent of items
-unfoldable pub extentOf : Mesh → List ℕ → Extent
-extentOf m items = extendAll m nothing items
+-- a box around centres, and the centres of triangles in their order
+unfoldable pub withCenters : Mesh → BoundingBox → List ℕ → BoundingBox
+withCenters m b [] = b
+withCenters m b (t ∷ rest) = withCenters m (withCenter b (centerOf m t)) rest
 
 -- ---- the axis
 
@@ -72,6 +59,10 @@ edge upper axis b = component (cond upper (b .max) (b .min)) axis
 -- that edge of the own box of triangle t
 abbrev pub ownEdge : Mesh → Bool → ℕ → ℕ → Float
 ownEdge m upper axis t = edge upper axis (ownBox m t)
+
+-- the smaller of two, or the larger
+unfoldable pub pick : Bool → Float → Float → Float
+pick upper a b = cond upper (Rules.max a b) (Rules.min a b)
 
 -- no item with a zero: its number is behind all others
 unfoldable pub noZero : Found
@@ -96,3 +87,20 @@ settledBox m items b =
     box
     (vec (settledEdge m items false 0 (b .min .x)) (settledEdge m items false 1 (b .min .y)) (settledEdge m items false 2 (b .min .z)))
     (vec (settledEdge m items true 0 (b .max .x)) (settledEdge m items true 1 (b .max .y)) (settledEdge m items true 2 (b .max .z)))
+
+-- ---- the box of an inner node
+
+-- whether two floats are equal as numbers and not the same: zeros of unlike sign
+unfoldable pub unlike : Float → Float → Bool
+unlike a b = eq a b && not (eqb (orderKey a) (orderKey b))
+
+-- an edge of the box of items from those of their halves: of zeros of unlike sign it is that of the lowest-numbered item whose edge is zero
+unfoldable pub joinedEdge : Mesh → List ℕ → Bool → ℕ → Float → Float → Float
+joinedEdge m items upper axis a b = cond (unlike a b) (firstZero (ownEdge m upper axis) (sorted items) .edge) (pick upper a b)
+
+-- the box of items from those of their halves
+unfoldable pub joinedBox : Mesh → List ℕ → BoundingBox → BoundingBox → BoundingBox
+joinedBox m items a b =
+    box
+    (vec (joinedEdge m items false 0 (a .min .x) (b .min .x)) (joinedEdge m items false 1 (a .min .y) (b .min .y)) (joinedEdge m items false 2 (a .min .z) (b .min .z)))
+    (vec (joinedEdge m items true 0 (a .max .x) (b .max .x)) (joinedEdge m items true 1 (a .max .y) (b .max .y)) (joinedEdge m items true 2 (a .max .z) (b .max .z)))

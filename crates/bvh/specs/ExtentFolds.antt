@@ -1,28 +1,29 @@
 -- The least of floats, or the greatest, in the order of a list. In another order it is the same but for the sign of a zero; and where it is
--- zero, it is the first zero of the list. So from a list in any order the least of the sorted list can be told: `least-settled`.
+-- zero, it is the first zero of the list. So from a list in any order the least of the sorted list can be told: `least-settled`; and from its
+-- two parts, sorted: `least-parts`.
 use Prim.Native.Nat.{ℕ}
-use mathlib.Core.Path.{_≡_, refl}
+use mathlib.Core.Path.{_≡_, refl, sym, ap, _∙_}
 use mathlib.Core.Logic.{_⊎_, inl, inr, ⊎-elim}
 use mathlib.Core.Bool.{Bool, true, false, not, cond, _||_}
-use mathlib.Core.List.{List, [], _∷_}
-use lib.Dec.{T, T-not}
+use mathlib.Core.List.{List, [], _∷_, _++_}
+use lib.Dec.{T, T-not, eqb, eqb→eq, eqb-refl}
 use lib.Ieee.{Float, inf, binary64, isNan, ofBits, le, eq, ne}
 use lib.Ieee.Bits.{is-true}
 use lib.Ieee.Fits.{inf-fits}
 use Rattle.float.specs.Arithmetic.{zero}
 use Rattle.float.specs.Rules as Rules
+use Rattle.float.specs.TotalOrder.{orderKey}
+use Rattle.float.specs.OrderTheorems.{key-injective}
 use Rattle.float.specs.Order.{Number, isZero, Alike, le-refl, le-trans, le-antisym, eq-le, eq-sym, lt-le, lt-not-le, alike-eq, eq-alike}
 use Rattle.keys.specs.Sorting.{insertBy, sortedBy, sorted, All}
-use Rattle.keys.specs.SortingTheorems.{le-or-lt, insert-here, insert-past, all-sortedBy}
+use Rattle.keys.specs.SortingTheorems.{le-or-lt, insert-here, insert-past, all-map, all-sortedBy}
+use Rattle.keys.specs.Permutations.{all-append, all-split}
 use Rattle.mesh.specs.PermutedBoxes.{F64}
-use Rattle.bvh.specs.Extent.{firstZero}
+use Rattle.bvh.specs.Extent.{pick, firstZero, unlike}
 use Rattle.bvh.specs.ExtentZeros.{by-test}
+use Rattle.bvh.specs.ExtentFirst.{Small, found, NoZero, found-right, found-left, found-either}
 
 -- ---- the order, taken either way
-
--- the smaller of the two, or the larger
-unfoldable pub pick : Bool → Float → Float → Float
-pick upper a b = cond upper (Rules.max a b) (Rules.min a b)
 
 -- a is at most b, or at least b
 abbrev before : Bool → Float → Float → Bool
@@ -45,6 +46,10 @@ before-turn : (upper : Bool) (x y : Float) → Number x → Number y → T (not 
 before-turn false x y p q h = lt-le y x (rw (lt-not-le y x q p) h)
 before-turn true x y p q h = lt-le x y (rw (lt-not-le x y p q) h)
 
+before-eq : (upper : Bool) (x y : Float) → T (eq x y) → T (before upper x y)
+before-eq false x y h = eq-le x y h
+before-eq true x y h = eq-le y x (eq-sym x y h)
+
 zeros-le : (x y : Float) → T (eq x zero) → T (eq y zero) → T (le x y)
 zeros-le x y h k = le-trans x zero y (eq-le x zero h) (eq-le zero y (eq-sym y zero k))
 
@@ -66,6 +71,12 @@ pick-is : (upper : Bool) (a b : Float) → Number a → Number b → pick upper 
 unfolding pick Rules.min Rules.max
 pick-is false a b p q = rw (self a p, lt-not-le b a q p) (flip (le a b) a b)
 pick-is true a b p q = rw (self a p, lt-not-le a b p q) (flip (le b a) a b)
+
+pick-left : (upper : Bool) (a b : Float) → Number a → Number b → before upper a b ≡ true → pick upper a b ≡ a
+pick-left upper a b p q h = rw (pick-is upper a b p q, h)
+
+pick-right : (upper : Bool) (a b : Float) → Number a → Number b → before upper a b ≡ false → pick upper a b ≡ b
+pick-right upper a b p q h = rw (pick-is upper a b p q, h)
 
 -- ---- zeros
 
@@ -249,3 +260,91 @@ module _ (upper : Bool) (counts : ℕ → Bool) (e : ℕ → Float) where
         by-test (eq (least items) zero)
         (λ z. rw z (first-zero (sorted items) (eq-zero (least (sorted items)) (least items) equal (rw z tt))))
         (λ z. rw z (not-zero (least-f64 items .number) z (least-alike items)))
+
+    -- what comes before the result of sorted items comes before the float of each item
+    below : (c : Float) (l : List ℕ) → T (before upper c (least (sorted l))) → T (before upper c (inf upper)) × Bound c l
+    below c l h = let p = picked-bound c (inf upper) (sorted l) (infinity-f64 upper) h in (p .0, all-unsorted _ l (p .1))
+
+    -- and the other way round
+    above : (c : Float) (l : List ℕ) → T (before upper c (inf upper)) → Bound c l → T (before upper c (least (sorted l)))
+    above c l h b = bound-picked c (inf upper) (sorted l) (infinity-f64 upper) h (all-sortedBy _ (λ x. x) l b)
+
+    -- where the result does not come before a zero, no item has a zero
+    no-zero : (l : List ℕ) (r : Float) → T (eq r zero) → before upper (least (sorted l)) r ≡ false → NoZero e l
+    no-zero l r z h =
+        let c = least (sorted l) in
+        all-map (λ t. T (counts t) → T (before upper c (e t))) (λ t. eq (e t) zero ≡ false) l
+        (λ t b. by-test (eq (e t) zero) (λ w. absurd (rw h at (before-trans upper c (e t) r (b (given .zeros t (rw w tt))) (before-zeros upper (e t) r (rw w tt) z)))) (λ w. w))
+        (below c l (before-refl upper c (least-f64 (sorted l) .number)) .1)
+
+    module _ (a b : List ℕ) (s : Small a) (u : Small b) where
+      abbrev whole : Float
+      whole = least (sorted (a ++ b))
+
+      abbrev left : Float
+      left = least (sorted a)
+
+      abbrev right : Float
+      right = least (sorted b)
+
+      whole-before : T (before upper whole left) × T (before upper whole right)
+      whole-before =
+          let p = below whole (a ++ b) (before-refl upper whole (least-f64 (sorted (a ++ b)) .number)) in
+          let parts = all-split _ a b (p .1) in
+          (above whole a (p .0) (parts .0), above whole b (p .0) (parts .1))
+
+      before-whole : (c : Float) → T (before upper c left) → T (before upper c right) → T (before upper c whole)
+      before-whole c h k = let p = below c a h in let q = below c b k in above c (a ++ b) (p .0) (all-append _ a b (p .1) (q .1))
+
+      -- the result of the whole is the one of a part that comes before the other, if that is the first zero where it is zero
+      whole-is : (v : Float) → F64 v → T (before upper v left) → T (before upper v right) → T (before upper whole v) → (T (eq v zero) → v ≡ found e (a ++ b) .edge) → whole ≡ v
+      whole-is v p h k w first =
+          let same = before-antisym upper whole v w (before-whole v h k) in
+          by-test (eq v zero)
+          (λ z. first-zero (sorted (a ++ b)) (eq-zero whole v same (rw z tt)) ∙ sym (first (rw z tt)))
+          (λ n. not-zero (p .number) n (eq-alike binary64 whole v (least-f64 (sorted (a ++ b)) .fit) (p .fit) same))
+
+      -- the result of the whole from those of its parts: it can be neither only if they are zeros of unlike sign
+      pub least-parts : whole ≡ cond (unlike left right) (found e (a ++ b) .edge) (pick upper left right)
+      unfolding unlike
+      least-parts =
+          by-test (before upper left right)
+          (λ h. by-test (before upper right left) (λ k. both h k) (λ k. rw (apart (λ z. rw k at (before-eq upper right left (eq-sym left right z))), pick-left upper left right (p .number) (q .number) h) (only-left h k)))
+          (λ h. rw (apart (λ z. rw h at (before-eq upper left right z)), pick-right upper left right (p .number) (q .number) h) (only-right h))
+        where
+          p : F64 left
+          p = least-f64 (sorted a)
+
+          q : F64 right
+          q = least-f64 (sorted b)
+
+          apart : (T (eq left right) → ⊥) → eq left right ≡ false
+          apart f = by-test (eq left right) (λ z. absurd (f (rw z tt))) (λ z. z)
+
+          only-left : before upper left right ≡ true → before upper right left ≡ false → whole ≡ left
+          only-left h k =
+              whole-is left p (before-refl upper left (p .number)) (rw h tt) (whole-before .0)
+              (λ z. first-zero (sorted a) z ∙ ap (λ f. f .edge) (sym (found-left e a b s u (no-zero b left z k))))
+
+          only-right : before upper left right ≡ false → whole ≡ right
+          only-right h =
+              whole-is right q (before-turn upper left right (p .number) (q .number) (rw h tt)) (before-refl upper right (q .number)) (whole-before .1)
+              (λ z. first-zero (sorted b) z ∙ ap (λ f. f .edge) (sym (found-right e a b s (no-zero a right z h))))
+
+          one : left ≡ right → whole ≡ left
+          one same =
+              let self-before = before-refl upper left (p .number) in
+              whole-is left p self-before (rw (← same) self-before) (whole-before .0)
+              (λ z. ⊎-elim (λ w. first-zero (sorted a) z ∙ ap (λ f. f .edge) (sym w)) (λ w. same ∙ first-zero (sorted b) (rw same at z) ∙ ap (λ f. f .edge) (sym w)) (found-either e a b s u))
+
+          both : before upper left right ≡ true → before upper right left ≡ true → whole ≡ cond (unlike left right) (found e (a ++ b) .edge) (pick upper left right)
+          both h k =
+              let equal = before-antisym upper left right (rw h tt) (rw k tt) in
+              by-test (eqb (orderKey left) (orderKey right))
+              (λ y. rw (is-true (eq left right) equal, y, pick-left upper left right (p .number) (q .number) h) (one (key-injective left right (p .fit) (q .fit) (p .number) (q .number) (eqb→eq _ _ (rw y tt)))))
+              (λ y. rw (is-true (eq left right) equal, y) (first-zero (sorted (a ++ b)) (zero-whole equal y)))
+            where
+              zero-whole : T (eq left right) → eqb (orderKey left) (orderKey right) ≡ false → T (eq whole zero)
+              zero-whole equal y =
+                  let z = ⊎-elim (λ same. let k : T (eqb (orderKey left) (orderKey right)) = rw same (eqb-refl (orderKey right)) in absurd (rw y at k)) (λ z. zero-eq left (p .number) (z .0)) (eq-alike binary64 left right (p .fit) (q .fit) equal) in
+                  eq-zero whole left (before-antisym upper whole left (whole-before .0) (before-whole left (before-refl upper left (p .number)) (rw h tt))) z

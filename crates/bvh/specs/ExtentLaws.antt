@@ -1,30 +1,33 @@
--- What the builder measures does not hang on the order of a node's items: `nodeBox-any-order` and `splitAxis-any-order`. And the extent of the
--- items says both: `extent-box` and `extent-axis`.
-use Prim.Native.Nat.{ℕ, _+_, _*_}
+-- What the builder measures does not hang on the order of a node's items: `nodeBox-any-order` and `splitAxis-any-order`. An inner node's box
+-- follows from those of its halves, and the axis from the box around the centres: `joined-halves` and `centers-axis`.
+use Prim.Native.Nat.{ℕ, _+_, _*_, _≤_, _<_}
+use native.Mathlib.Omega.{arith}
 use mathlib.Core.Path.{_≡_, refl, sym, ap, ap₂, _∙_}
 use mathlib.Core.Bool.{Bool, true, false, cond, _||_}
-use mathlib.Core.List.{List, [], _∷_}
+use mathlib.Core.List.{List, [], _∷_, _++_}
 use lib.Dec.{T, eqb}
 use lib.Ieee.{Float, nan, inf, fin, binary64, fits, isNan, ofBits, lt, eq, ne}
 use lib.Ieee.Fits.{cond-fits, inf-fits, mul-fits}
-use lib.ListN.{getD}
+use lib.ListN.{getD, take, drop, take-append-drop}
 use Rattle.float.specs.Arithmetic.{zero, _⊖_}
 use Rattle.float.specs.Rules as Rules
 use Rattle.float.specs.Order.{Number, finite-number}
 use Rattle.keys.specs.Sorting.{sorted}
+use Rattle.keys.specs.SortingTheorems.{all-of}
+use Rattle.keys.specs.Permutations.{all-split}
 use Rattle.math.specs.declared.Vec3.{Vec3}
 use Rattle.math.specs.declared.BoundingBox.{BoundingBox}
 use Rattle.math.specs.Vectors as Vectors
 use Rattle.math.specs.Vectors.{component}
 use Rattle.math.specs.Boxes.{box, empty, include, size, center}
 use Rattle.mesh.specs.Boxes.{vertex, triangleBox, triangleCenter}
-use Rattle.bvh.specs.declared.extent.Extent.{Extent}
 use Rattle.bvh.specs.Tree.{Mesh, ownBox}
 use Rattle.bvh.specs.Builder.{centerOf, centerOn, lowest, highest, spread, wider, splitAxis, join, joinAll, nodeBox}
 use Rattle.bvh.specs.JoinLaws.{NumberBox, ownBox-numbers}
-use Rattle.bvh.specs.Extent.{lower, higher, withCenter, extend, nothing, extendAll, extentOf, widerAxis, widestAxis, edge, ownEdge, settledEdge, settledBox}
+use Rattle.bvh.specs.Extent.{lower, higher, withCenter, withCenters, widerAxis, widestAxis, edge, ownEdge, pick, settledEdge, settledBox, joinedEdge, joinedBox}
 use Rattle.bvh.specs.ExtentZeros.{sub-same}
-use Rattle.bvh.specs.ExtentFolds.{pick, next, picked, least, Floats, least-alike, least-zero, least-settled}
+use Rattle.bvh.specs.ExtentFolds.{next, picked, least, Floats, least-alike, least-zero, least-settled, least-parts}
+use Rattle.bvh.specs.ExtentFirst.{Small}
 
 -- ---- components
 
@@ -86,7 +89,7 @@ zero-counts (inf s) h = h
 zero-counts (fin s n e) h = tt
 
 -- a centre is a product, so it is of the format
-center-fits : (m : Mesh) (axis t : ℕ) → T (fits binary64 (centerOn m axis t))
+pub center-fits : (m : Mesh) (axis t : ℕ) → T (fits binary64 (centerOn m axis t))
 unfolding centerOn centerOf triangleCenter center Vectors.mul component
 center-fits m axis t = each (λ x. T (fits binary64 x)) (eqb axis 0) (eqb axis 1) _ _ _ (mul-fits binary64 _ _) (mul-fits binary64 _ _) (mul-fits binary64 _ _)
 
@@ -124,28 +127,27 @@ module _ (m : Mesh) (items : List ℕ) where
   unfolding splitAxis
   splitAxis-any-order = rw (wider-any-order 0 1, wider-any-order (wider m items 0 1) 2)
 
-centers-picked : (m : Mesh) (upper : Bool) (axis : ℕ) (e : Extent) (l : List ℕ) → edge upper axis (extendAll m e l .centers) ≡ picked upper (finiteOn m axis) (centerOn m axis) (edge upper axis (e .centers)) l
-unfolding extendAll extend picked next centerOn centerOf ownBox triangleCenter
-centers-picked m upper axis e [] = refl
-centers-picked m upper axis e (t ∷ rest) =
-    centers-picked m upper axis (extend e (ownBox m t)) rest ∙ ap (λ v. picked upper (finiteOn m axis) (centerOn m axis) v rest) (withCenter-edge upper axis (e .centers) (center (ownBox m t)))
+centers-picked : (m : Mesh) (upper : Bool) (axis : ℕ) (b : BoundingBox) (l : List ℕ) → edge upper axis (withCenters m b l) ≡ picked upper (finiteOn m axis) (centerOn m axis) (edge upper axis b) l
+unfolding withCenters picked next centerOn
+centers-picked m upper axis b [] = refl
+centers-picked m upper axis b (t ∷ rest) =
+    centers-picked m upper axis (withCenter b (centerOf m t)) rest ∙ ap (λ v. picked upper (finiteOn m axis) (centerOn m axis) v rest) (withCenter-edge upper axis b (centerOf m t))
 
-centers-least : (m : Mesh) (items : List ℕ) (upper : Bool) (axis : ℕ) → edge upper axis (extentOf m items .centers) ≡ least upper (finiteOn m axis) (centerOn m axis) items
-unfolding extentOf nothing
-centers-least m items upper axis = centers-picked m upper axis nothing items ∙ ap (λ v. picked upper (finiteOn m axis) (centerOn m axis) v items) (empty-edge upper axis)
+centers-least : (m : Mesh) (items : List ℕ) (upper : Bool) (axis : ℕ) → edge upper axis (withCenters m empty items) ≡ least upper (finiteOn m axis) (centerOn m axis) items
+centers-least m items upper axis = centers-picked m upper axis empty items ∙ ap (λ v. picked upper (finiteOn m axis) (centerOn m axis) v items) (empty-edge upper axis)
 
 -- the size of the box around the centres is their spread
-extent-spread : (m : Mesh) (items : List ℕ) (axis : ℕ) → component (size (extentOf m items .centers)) axis ≡ spread m items axis
-extent-spread m items axis = rw (size-edges, spread-least) (ap₂ _⊖_ (centers-least m items true axis) (centers-least m items false axis))
+centers-spread : (m : Mesh) (items : List ℕ) (axis : ℕ) → component (size (withCenters m empty items)) axis ≡ spread m items axis
+centers-spread m items axis = rw (size-edges, spread-least) (ap₂ _⊖_ (centers-least m items true axis) (centers-least m items false axis))
 
-extent-wider : (m : Mesh) (items : List ℕ) (a b : ℕ) → widerAxis (size (extentOf m items .centers)) a b ≡ wider m items a b
+centers-wider : (m : Mesh) (items : List ℕ) (a b : ℕ) → widerAxis (size (withCenters m empty items)) a b ≡ wider m items a b
 unfolding wider widerAxis
-extent-wider m items a b = rw (extent-spread m items a, extent-spread m items b)
+centers-wider m items a b = rw (centers-spread m items a, centers-spread m items b)
 
 -- the axis on which that box is widest is the one on which the node is split
-pub extent-axis : (m : Mesh) (items : List ℕ) → widestAxis (size (extentOf m items .centers)) ≡ splitAxis m (sorted items)
+pub centers-axis : (m : Mesh) (items : List ℕ) → widestAxis (size (withCenters m empty items)) ≡ splitAxis m (sorted items)
 unfolding widestAxis splitAxis
-extent-axis m items = rw (extent-wider m items 0 1, extent-wider m items (wider m items 0 1) 2) (sym (splitAxis-any-order m items))
+centers-axis m items = rw (centers-wider m items 0 1, centers-wider m items (wider m items 0 1) 2) (sym (splitAxis-any-order m items))
 
 -- ---- the box
 
@@ -225,6 +227,13 @@ module _ (m : Mesh) (fit : Fit m) (upper : Bool) (axis : ℕ) where
   edge-any-order items =
       rw (nodeBox-least m upper axis (sorted items), nodeBox-least m upper axis items) (least-settled upper always (ownEdge m upper axis) ownEdges items)
 
+  -- an edge of a node's box from those of its two halves
+  edge-halves : (a b : List ℕ) → Small a → Small b → edge upper axis (nodeBox m (sorted (a ++ b))) ≡ joinedEdge m (a ++ b) upper axis (edge upper axis (nodeBox m (sorted a))) (edge upper axis (nodeBox m (sorted b)))
+  unfolding joinedEdge
+  edge-halves a b s u =
+      rw (nodeBox-least m upper axis (sorted (a ++ b)), nodeBox-least m upper axis (sorted a), nodeBox-least m upper axis (sorted b))
+      (least-parts upper always (ownEdge m upper axis) ownEdges a b s u)
+
 -- a node's box, joined in any order: an edge that is not zero is the same, and one that is zero has the sign of the lowest-numbered triangle
 -- whose edge is zero
 pub nodeBox-any-order : (m : Mesh) → Fit m → (items : List ℕ) → nodeBox m (sorted items) ≡ settledBox m items (nodeBox m items)
@@ -233,12 +242,14 @@ nodeBox-any-order m fit items =
     rw
     (← edge-any-order m fit false 0 items, ← edge-any-order m fit false 1 items, ← edge-any-order m fit false 2 items, ← edge-any-order m fit true 0 items, ← edge-any-order m fit true 1 items, ← edge-any-order m fit true 2 items)
 
-extendAll-joined : (m : Mesh) (e : Extent) (l : List ℕ) → extendAll m e l .joined ≡ joinAll m (e .joined) l
-unfolding extendAll extend joinAll
-extendAll-joined m e [] = refl
-extendAll-joined m e (t ∷ rest) = extendAll-joined m (extend e (ownBox m t)) rest
+joined-parts : (m : Mesh) → Fit m → (a b : List ℕ) → Small a → Small b → nodeBox m (sorted (a ++ b)) ≡ joinedBox m (a ++ b) (nodeBox m (sorted a)) (nodeBox m (sorted b))
+unfolding joinedBox edge component
+joined-parts m fit a b s u =
+    rw
+    (← edge-halves m fit false 0 a b s u, ← edge-halves m fit false 1 a b s u, ← edge-halves m fit false 2 a b s u, ← edge-halves m fit true 0 a b s u, ← edge-halves m fit true 1 a b s u, ← edge-halves m fit true 2 a b s u)
 
--- the join of the extent, with its edges settled, is the node's box
-pub extent-box : (m : Mesh) → Fit m → (items : List ℕ) → settledBox m items (extentOf m items .joined) ≡ nodeBox m (sorted items)
-unfolding extentOf nothing
-extent-box m fit items = rw (extendAll-joined m nothing items, ← nodeBox-joined m items) (sym (nodeBox-any-order m fit items))
+-- the box of an inner node is that of its halves joined, whose items may stand in any order
+pub joined-halves : (m : Mesh) → Fit m → (items : List ℕ) (half : ℕ) → ((i : ℕ) → getD items i 0 < 4294967296) → joinedBox m items (nodeBox m (sorted (take half items))) (nodeBox m (sorted (drop half items))) ≡ nodeBox m (sorted items)
+joined-halves m fit items half small =
+    let parts = all-split (λ t. t ≤ 0xFFFF_FFFF) (take half items) (drop half items) (rw (take-append-drop half items) (all-of (λ t. t ≤ 0xFFFF_FFFF) items (λ i h. omega (arith, small i)))) in
+    sym (rw (take-append-drop half items) at (joined-parts m fit (take half items) (drop half items) (parts .0) (parts .1)))

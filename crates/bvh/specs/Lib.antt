@@ -14,6 +14,7 @@ pub mod BuilderSize
 pub mod Node
 pub mod Extent
 pub mod ExtentZeros
+pub mod ExtentFirst
 pub mod ExtentFolds
 pub mod ExtentLoops
 pub mod ExtentLaws
@@ -23,3 +24,4 @@ pub mod MedianTheorem
 pub mod Leaf
 pub mod Build
 pub mod BuildLaws
+pub mod BuildTheorem

@@ -9,7 +9,9 @@ ghost use Rattle.bvh.specs.Tree as Tree;
 ghost use Rattle.bvh.specs.Node as Node;
 ghost use Rattle.bvh.specs.Builder as Builder;
 ghost use Rattle.bvh.specs.Build as Build;
-use crate::extent::measure;
+use crate::extent::inner_box;
+use crate::extent::leaf_box;
+use crate::extent::split_of;
 use crate::leaf::sort_items;
 use crate::median::halve;
 use math::BoundingBox;
@@ -21,6 +23,12 @@ use refusal::Verdict;
 pub enum Built {
     Refused(Refusal),
     Nodes(usize),
+}
+
+// What was written of a subtree: the next free node is `end`, and the root's box is `bounds`.
+struct Subtree {
+    end: usize,
+    bounds: BoundingBox,
 }
 
 // Writes the box of node `n`.
@@ -46,33 +54,32 @@ fn put_node(nodes: &mut [u32], n: usize, start: usize, count: usize)
 }
 
 // Writes a leaf as node `n`, its items sorted, which begin at place `i`.
-fn build_leaf(nodes: &mut [u32], items: &mut [u32], n: usize, i: usize)
-    requires { ⌜ (2 * n + 2 ≤ length (now nodes)) × (i < 4294967296) × (length (now items) ≤ 4) ⌝ }
-    ensures { λ _. ⌜ (now (items .exit) ≡ sorted (now (items .entry))) × (now (nodes .exit) ≡ set (set (now (nodes .entry)) (2 * n) i) (2 * n + 1) (length (now (items .entry)))) ⌝ }
-{
-    sort_items(items);
-    put_node(nodes, n, i, items.len());
-}
-
-// Writes the box of node `n` over the items, and returns the axis on which they are split.
-fn start_node(
+fn build_leaf(
     coords: &[f64],
     corners: &[u32],
     ends: &[u32],
     sides: usize,
     boxes: &mut [f64],
-    items: &[u32],
+    nodes: &mut [u32],
+    items: &mut [u32],
     n: usize,
-) -> usize
-    requires { ⌜ Node.Items (Tree.mesh (now coords) (now corners) (now ends)) sides (now items) × (0 < length (now items)) × (6 * n + 6 ≤ length (now boxes)) ⌝ }
-    ensures { λ r. ⌜ (r ≡ Builder.splitAxis (Tree.mesh (now (coords .entry)) (now (corners .entry)) (now (ends .entry))) (sorted (now (items .entry)))) × (now (boxes .exit) ≡ sets (now (boxes .entry)) (6 * n) (Builder.edges (Builder.nodeBox (Tree.mesh (now (coords .entry)) (now (corners .entry)) (now (ends .entry))) (sorted (now (items .entry)))))) ⌝ }
+    i: usize,
+) -> Subtree
+    requires { ⌜ Build.Room (Tree.mesh (now coords) (now corners) (now ends)) sides (length (now boxes)) (length (now nodes)) (now items) n i × (length (now items) ≤ 4) ⌝ }
+    ensures { λ r. ⌜ Build.Writes (Tree.mesh (now (coords .entry)) (now (corners .entry)) (now (ends .entry))) (now (boxes .entry)) (now (nodes .entry)) (now (items .entry)) n i r (now (boxes .exit)) (now (nodes .exit)) (now (items .exit)) ⌝ }
 {
-    let measured = measure(coords, corners, ends, sides, items);
-    put_box(boxes, n, measured.bounds);
-    measured.axis
+    sort_items(items);
+    let bounds = leaf_box(coords, corners, ends, sides, items);
+    put_box(boxes, n, bounds);
+    put_node(nodes, n, i, items.len());
+    Subtree {
+        end: n + 1,
+        bounds: bounds,
+    }
 }
 
-// Writes the subtree over the items, from node `n` and item place `i` on, and returns the next free node.
+// Writes the subtree over the items, from node `n` and item place `i` on. The box of an inner node is made
+// of those of its halves.
 fn build_node(
     coords: &[f64],
     corners: &[u32],
@@ -83,19 +90,18 @@ fn build_node(
     items: &mut [u32],
     n: usize,
     i: usize,
-) -> usize
+) -> Subtree
     requires { ⌜ Build.Room (Tree.mesh (now coords) (now corners) (now ends)) sides (length (now boxes)) (length (now nodes)) (now items) n i ⌝ }
     ensures { λ r. ⌜ Build.Writes (Tree.mesh (now (coords .entry)) (now (corners .entry)) (now (ends .entry))) (now (boxes .entry)) (now (nodes .entry)) (now (items .entry)) n i r (now (boxes .exit)) (now (nodes .exit)) (now (items .exit)) ⌝ }
 {
-    let axis = start_node(coords, corners, ends, sides, boxes, items, n);
     let places = items.len();
     if places <= 4 {
-        build_leaf(nodes, items, n, i);
-        return n + 1;
+        return build_leaf(coords, corners, ends, sides, boxes, nodes, items, n, i);
     }
-    halve(coords, corners, ends, sides, axis, items);
+    let split = split_of(coords, corners, ends, sides, items);
+    halve(coords, corners, ends, sides, split.axis, split.pivot, items);
     let half = places / 2;
-    let right = build_node(
+    let left = build_node(
         coords,
         corners,
         ends,
@@ -106,8 +112,8 @@ fn build_node(
         n + 1,
         i,
     );
-    put_node(nodes, n, right, 0);
-    build_node(
+    let next = left.end;
+    let right = build_node(
         coords,
         corners,
         ends,
@@ -115,9 +121,25 @@ fn build_node(
         boxes,
         nodes,
         &mut items[half..places],
-        right,
+        next,
         i + half,
-    )
+    );
+    let bounds = inner_box(
+        coords,
+        corners,
+        ends,
+        sides,
+        items,
+        half,
+        left.bounds,
+        right.bounds,
+    );
+    put_box(boxes, n, bounds);
+    put_node(nodes, n, next, 0);
+    Subtree {
+        end: right.end,
+        bounds: bounds,
+    }
 }
 
 // Writes the numbers from 0 on.
@@ -132,8 +154,7 @@ fn number_items(items: &mut [u32])
     }
 }
 
-// Writes the tree over all triangles of a mesh, for each of which there is an item place, and returns the
-// number of its nodes.
+// Writes the tree over all triangles of a mesh, for each of which there is an item place.
 fn build_all(
     coords: &[f64],
     corners: &[u32],
@@ -141,7 +162,7 @@ fn build_all(
     boxes: &mut [f64],
     nodes: &mut [u32],
     items: &mut [u32],
-) -> usize
+) -> Subtree
     requires { ⌜ Build.Whole (Tree.mesh (now coords) (now corners) (now ends)) (length (now boxes)) (length (now nodes)) (length (now items)) ⌝ }
     ensures { λ r. ⌜ Build.Writes (Tree.mesh (now (coords .entry)) (now (corners .entry)) (now (ends .entry))) (now (boxes .entry)) (now (nodes .entry)) (Builder.numbers 0 (length (now (items .entry)))) 0 0 r (now (boxes .exit)) (now (nodes .exit)) (now (items .exit)) ⌝ }
 {
@@ -195,7 +216,7 @@ pub fn build(
             if triangles == 0 {
                 return Built::Nodes(0);
             }
-            let count = build_all(
+            let tree = build_all(
                 coords,
                 corners,
                 ends,
@@ -203,7 +224,7 @@ pub fn build(
                 nodes,
                 &mut items[0..triangles],
             );
-            Built::Nodes(count)
+            Built::Nodes(tree.end)
         }
     }
 }

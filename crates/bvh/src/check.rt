@@ -69,7 +69,7 @@ pub fn own_box(coords: &[f64], corners: &[u32], ends: &[u32], sides: usize, t: u
     ensures { λ r. ⌜ r ≡ Tree.ownBox (Tree.mesh (now (coords .entry)) (now (corners .entry)) (now (ends .entry))) t ⌝ }
 {
     let triangle = mesh::triangles::triangle(corners, ends, sides, t as usize);
-    mesh::boxes::triangle_box(coords, triangle)
+    mesh::boxes::finite_box(coords, triangle)
 }
 
 // The join of the own boxes of `places` items from place `i` on.

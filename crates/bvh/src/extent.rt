@@ -1,9 +1,10 @@
-// What the builder measures of a node's items, which may stand in any order: the node's box, and the axis
-// on which the items are split. The definitions are in specs/Extent.antt.
+// What the builder measures of a node's items: the axis on which they are split, and the node's box. The
+// definitions are in specs/Extent.antt.
 ghost use mathlib.Core.Path.{_≡_};
 ghost use Prim.Native.Nat.{_<_};
-ghost use lib.ListN.{length};
+ghost use lib.ListN.{length, take, drop};
 ghost use Rattle.keys.specs.Sorting.{sorted};
+ghost use Rattle.math.specs.Boxes as Boxes;
 ghost use Rattle.bvh.specs.Tree as Tree;
 ghost use Rattle.bvh.specs.Node as Node;
 ghost use Rattle.bvh.specs.Builder as Builder;
@@ -11,14 +12,6 @@ ghost use Rattle.bvh.specs.Extent as Extents;
 use crate::check::own_box;
 use math::BoundingBox;
 use math::Vec3;
-
-// What one loop over the items of a node finds.
-struct Extent {
-    // The join of their own boxes in the order of the loop.
-    joined: BoundingBox,
-    // On each axis the lowest and the highest finite centre.
-    centers: BoundingBox,
-}
 
 // The lower of `lo` and a centre; one that is not finite does not count.
 fn lower(lo: f64, c: f64) -> f64
@@ -60,35 +53,26 @@ fn with_center(b: BoundingBox, c: Vec3) -> BoundingBox
     }
 }
 
-// An extent, and one own box more.
-fn extend(e: Extent, b: BoundingBox) -> Extent
-    ensures { λ r. ⌜ r ≡ Extents.extend e b ⌝ }
-{
-    Extent {
-        joined: BoundingBox {
-            min: e.joined.min.min(b.min),
-            max: e.joined.max.max(b.max),
-        },
-        centers: with_center(e.centers, b.center()),
-    }
-}
-
-// The extent of a node's items.
-fn extent_of(coords: &[f64], corners: &[u32], ends: &[u32], sides: usize, items: &[u32]) -> Extent
+// On each axis the lowest and the highest finite centre of the items.
+fn centers_of(
+    coords: &[f64],
+    corners: &[u32],
+    ends: &[u32],
+    sides: usize,
+    items: &[u32],
+) -> BoundingBox
     requires { ⌜ Node.Items (Tree.mesh (now coords) (now corners) (now ends)) sides (now items) ⌝ }
-    ensures { λ r. ⌜ r ≡ Extents.extentOf (Tree.mesh (now (coords .entry)) (now (corners .entry)) (now (ends .entry))) (now (items .entry)) ⌝ }
+    ensures { λ r. ⌜ r ≡ Extents.withCenters (Tree.mesh (now (coords .entry)) (now (corners .entry)) (now (ends .entry))) Boxes.empty (now (items .entry)) ⌝ }
 {
-    let mut e = Extent {
-        joined: BoundingBox::empty(),
-        centers: BoundingBox::empty(),
-    };
+    let mut b = BoundingBox::empty();
     let mut j = 0;
     while j < items.len() {
         let triangle = mesh::triangles::triangle(corners, ends, sides, items[j] as usize);
-        e = extend(e, mesh::boxes::triangle_box(coords, triangle));
+        let own = mesh::boxes::finite_box(coords, triangle);
+        b = with_center(b, own.center());
         j += 1;
     }
-    e
+    b
 }
 
 // The axis of greatest size, the last on a tie.
@@ -102,6 +86,72 @@ fn widest_axis(size: Vec3) -> usize
         return if y <= z { 2 } else { 1 };
     }
     if x <= z { 2 } else { 0 }
+}
+
+// The upper edge of a box on an axis, or the lower one.
+fn edge(upper: bool, axis: u64, b: BoundingBox) -> f64
+    ensures { λ r. ⌜ r ≡ Extents.edge upper axis b ⌝ }
+{
+    if upper {
+        b.max.component(axis)
+    } else {
+        b.min.component(axis)
+    }
+}
+
+// The rank half way between the lowest and the highest centre on an axis; 0 where it would be that of a
+// NaN.
+fn middle_rank(centers: BoundingBox, axis: u64) -> u64
+    ensures { λ r. ⌜ r < 18446744073709551615 ⌝ }
+{
+    let lo = edge(false, axis, centers);
+    let hi = edge(true, axis, centers);
+    let key = float::order_key((lo + hi) * 0.5);
+    if key < 0xFFFF_FFFF_FFFF_FFFF { key } else { 0 }
+}
+
+// The axis on which a node's items are split, and a rank near their middle on it (a guess: nothing is
+// promised of it).
+pub struct Split {
+    pub axis: usize,
+    pub pivot: u64,
+}
+
+// How a node's items are split, in whatever order they stand.
+pub fn split_of(coords: &[f64], corners: &[u32], ends: &[u32], sides: usize, items: &[u32]) -> Split
+    requires { ⌜ Node.Items (Tree.mesh (now coords) (now corners) (now ends)) sides (now items) ⌝ }
+    ensures { λ r. ⌜ (r .axis ≡ Builder.splitAxis (Tree.mesh (now (coords .entry)) (now (corners .entry)) (now (ends .entry))) (sorted (now (items .entry)))) × (r .pivot < 18446744073709551615) ⌝ }
+{
+    let centers = centers_of(coords, corners, ends, sides, items);
+    let axis = widest_axis(centers.size());
+    Split {
+        axis: axis,
+        pivot: middle_rank(centers, axis as u64),
+    }
+}
+
+// The box of a leaf, whose items are sorted: their own boxes joined in their order.
+pub fn leaf_box(
+    coords: &[f64],
+    corners: &[u32],
+    ends: &[u32],
+    sides: usize,
+    items: &[u32],
+) -> BoundingBox
+    requires { ⌜ Node.Items (Tree.mesh (now coords) (now corners) (now ends)) sides (now items) × (0 < length (now items)) ⌝ }
+    ensures { λ r. ⌜ r ≡ Builder.nodeBox (Tree.mesh (now (coords .entry)) (now (corners .entry)) (now (ends .entry))) (now (items .entry)) ⌝ }
+{
+    let mut b = own_box(coords, corners, ends, sides, items[0]);
+    let mut j = 1;
+    while j < items.len() {
+        let own = own_box(coords, corners, ends, sides, items[j]);
+        b = BoundingBox {
+            min: b.min.min(own.min),
+            max: b.max.max(own.max),
+        };
+        j += 1;
+    }
+    b
 }
 
 // The lowest-numbered item so far whose edge is zero, and that edge.
@@ -121,18 +171,7 @@ fn earlier(found: Found, t: u32, e: f64) -> Found
     }
 }
 
-// The upper edge of a box on an axis, or the lower one.
-fn edge(upper: bool, axis: u64, b: BoundingBox) -> f64
-    ensures { λ r. ⌜ r ≡ Extents.edge upper axis b ⌝ }
-{
-    if upper {
-        b.max.component(axis)
-    } else {
-        b.min.component(axis)
-    }
-}
-
-// That edge of the lowest-numbered item in whose own box it is zero.
+// The upper edge on an axis, or the lower one, of the lowest-numbered item in whose own box it is zero.
 fn zero_edge(
     coords: &[f64],
     corners: &[u32],
@@ -159,8 +198,27 @@ fn zero_edge(
     found.edge
 }
 
-// An edge of the node's box from that of the join: only the sign of a zero hangs on the order of the items.
-fn settled_edge(
+// The smaller of two, or the larger.
+fn pick(upper: bool, a: f64, b: f64) -> f64
+    ensures { λ r. ⌜ r ≡ Extents.pick upper a b ⌝ }
+{
+    if upper {
+        float::max(a, b)
+    } else {
+        float::min(a, b)
+    }
+}
+
+// Whether two floats are equal as numbers and not the same: zeros of unlike sign.
+fn unlike(a: f64, b: f64) -> bool
+    ensures { λ r. ⌜ r ≡ Extents.unlike a b ⌝ }
+{
+    (a == b) & (float::order_key(a) != float::order_key(b))
+}
+
+// An edge of the box of items from those of their halves: only of zeros of unlike sign it hangs on the
+// items.
+fn joined_edge(
     coords: &[f64],
     corners: &[u32],
     ends: &[u32],
@@ -168,63 +226,102 @@ fn settled_edge(
     items: &[u32],
     upper: bool,
     axis: u64,
-    v: f64,
+    a: f64,
+    b: f64,
 ) -> f64
     requires { ⌜ Node.Items (Tree.mesh (now coords) (now corners) (now ends)) sides (now items) ⌝ }
-    ensures { λ r. ⌜ r ≡ Extents.settledEdge (Tree.mesh (now (coords .entry)) (now (corners .entry)) (now (ends .entry))) (now (items .entry)) upper axis v ⌝ }
+    ensures { λ r. ⌜ r ≡ Extents.joinedEdge (Tree.mesh (now (coords .entry)) (now (corners .entry)) (now (ends .entry))) (now (items .entry)) upper axis a b ⌝ }
 {
-    if v != 0.0 {
-        return v;
+    if unlike(a, b) {
+        return zero_edge(coords, corners, ends, sides, items, upper, axis);
     }
-    zero_edge(coords, corners, ends, sides, items, upper, axis)
+    pick(upper, a, b)
 }
 
-// The node's box from the join.
-fn settled_box(
+// The box of an inner node from those of its halves: the first `half` items, and the others.
+pub fn inner_box(
     coords: &[f64],
     corners: &[u32],
     ends: &[u32],
     sides: usize,
     items: &[u32],
-    b: BoundingBox,
+    half: usize,
+    left: BoundingBox,
+    right: BoundingBox,
 ) -> BoundingBox
-    requires { ⌜ Node.Items (Tree.mesh (now coords) (now corners) (now ends)) sides (now items) ⌝ }
-    ensures { λ r. ⌜ r ≡ Extents.settledBox (Tree.mesh (now (coords .entry)) (now (corners .entry)) (now (ends .entry))) (now (items .entry)) b ⌝ }
+    requires { ⌜ Node.Items (Tree.mesh (now coords) (now corners) (now ends)) sides (now items) × (0 < half) × (half < length (now items)) × (left ≡ Builder.nodeBox (Tree.mesh (now coords) (now corners) (now ends)) (sorted (take half (now items)))) × (right ≡ Builder.nodeBox (Tree.mesh (now coords) (now corners) (now ends)) (sorted (drop half (now items)))) ⌝ }
+    ensures { λ r. ⌜ r ≡ Builder.nodeBox (Tree.mesh (now (coords .entry)) (now (corners .entry)) (now (ends .entry))) (sorted (now (items .entry))) ⌝ }
 {
     BoundingBox {
         min: Vec3 {
-            x: settled_edge(coords, corners, ends, sides, items, false, 0, b.min.x),
-            y: settled_edge(coords, corners, ends, sides, items, false, 1, b.min.y),
-            z: settled_edge(coords, corners, ends, sides, items, false, 2, b.min.z),
+            x: joined_edge(
+                coords,
+                corners,
+                ends,
+                sides,
+                items,
+                false,
+                0,
+                left.min.x,
+                right.min.x,
+            ),
+            y: joined_edge(
+                coords,
+                corners,
+                ends,
+                sides,
+                items,
+                false,
+                1,
+                left.min.y,
+                right.min.y,
+            ),
+            z: joined_edge(
+                coords,
+                corners,
+                ends,
+                sides,
+                items,
+                false,
+                2,
+                left.min.z,
+                right.min.z,
+            ),
         },
         max: Vec3 {
-            x: settled_edge(coords, corners, ends, sides, items, true, 0, b.max.x),
-            y: settled_edge(coords, corners, ends, sides, items, true, 1, b.max.y),
-            z: settled_edge(coords, corners, ends, sides, items, true, 2, b.max.z),
+            x: joined_edge(
+                coords,
+                corners,
+                ends,
+                sides,
+                items,
+                true,
+                0,
+                left.max.x,
+                right.max.x,
+            ),
+            y: joined_edge(
+                coords,
+                corners,
+                ends,
+                sides,
+                items,
+                true,
+                1,
+                left.max.y,
+                right.max.y,
+            ),
+            z: joined_edge(
+                coords,
+                corners,
+                ends,
+                sides,
+                items,
+                true,
+                2,
+                left.max.z,
+                right.max.z,
+            ),
         },
-    }
-}
-
-// The box of a node and the axis on which its items are split.
-pub struct Measured {
-    pub bounds: BoundingBox,
-    pub axis: usize,
-}
-
-// Measures a node's items, in whatever order they stand.
-pub fn measure(
-    coords: &[f64],
-    corners: &[u32],
-    ends: &[u32],
-    sides: usize,
-    items: &[u32],
-) -> Measured
-    requires { ⌜ Node.Items (Tree.mesh (now coords) (now corners) (now ends)) sides (now items) × (0 < length (now items)) ⌝ }
-    ensures { λ r. ⌜ (r .bounds ≡ Builder.nodeBox (Tree.mesh (now (coords .entry)) (now (corners .entry)) (now (ends .entry))) (sorted (now (items .entry)))) × (r .axis ≡ Builder.splitAxis (Tree.mesh (now (coords .entry)) (now (corners .entry)) (now (ends .entry))) (sorted (now (items .entry)))) ⌝ }
-{
-    let extent = extent_of(coords, corners, ends, sides, items);
-    Measured {
-        bounds: settled_box(coords, corners, ends, sides, items, extent.joined),
-        axis: widest_axis(extent.centers.size()),
     }
 }

@@ -3,6 +3,7 @@
 use Prim.Native.Nat.{ℕ, _+_, _*_, _<_}
 use native.Mathlib.Omega.{arith}
 use mathlib.Core.Path.{_≡_}
+use mathlib.Core.Bool.{true}
 use mathlib.Core.List.{List, [], _∷_}
 use lib.Ieee.{Float}
 use lib.ListN.{length, drop}
@@ -10,7 +11,7 @@ use Rattle.float.specs.Arithmetic.{_⊗_}
 use Rattle.float.specs.Rules.{max}
 use Rattle.math.specs.declared.Vec3.{Vec3}
 use Rattle.math.specs.declared.BoundingBox.{BoundingBox}
-use Rattle.math.specs.Vectors.{at, points, points-next, norm}
+use Rattle.math.specs.Vectors.{at, points, points-next, norm, isFinite}
 use Rattle.math.specs.Boxes.{empty, include, expanded, size, center}
 use Rattle.geom.specs.Tolerance.{relTol, tolOf}
 use Rattle.mesh.specs.declared.Triangle.{Triangle}
@@ -54,6 +55,12 @@ pub record Corners (coords : List Float) (t : Triangle) : Type 0 where
   pub a : 3 * t .a + 2 < length coords
   pub b : 3 * t .b + 2 < length coords
   pub c : 3 * t .c + 2 < length coords
+
+-- the corners of a triangle are finite
+pub record Finite (coords : List Float) (t : Triangle) : Type 0 where
+  pub a : isFinite (vertex coords (t .a)) ≡ true
+  pub b : isFinite (vertex coords (t .b)) ≡ true
+  pub c : isFinite (vertex coords (t .c)) ≡ true
 
 -- from vertex v on: it is taken in, and then the rest
 pub includeAll-next : (box : BoundingBox) (coords : List Float) (v : ℕ) → 3 * v + 2 < length coords → includeAll box (points (drop (3 * v) coords)) ≡ includeAll (include box (at coords (3 * v))) (points (drop (3 * (v + 1)) coords))

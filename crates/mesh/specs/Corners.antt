@@ -1,4 +1,4 @@
--- The corners of every triangle of an accepted mesh are vertices: a triangle of a fan has its corners from one face, and a face has its
+-- The corners of every triangle of an accepted mesh are finite vertices: a triangle of a fan has its corners from one face, and a face has its
 -- corners from the mesh.
 use Prim.Native.Nat.{ℕ, zero, suc, _+_, _-_, _*_, _/_, _<_}
 use native.Mathlib.Omega.{arith}
@@ -9,7 +9,7 @@ use lib.Seq.{getD-take, getD-drop}
 use Rattle.mesh.specs.declared.Triangle.{Triangle}
 use Rattle.mesh.specs.Faces.{faces, facesFrom}
 use Rattle.mesh.specs.Triangles.{fanFrom, fan, fans, triangles}
-use Rattle.mesh.specs.Boxes.{Corners}
+use Rattle.mesh.specs.Boxes.{vertex, Corners, Finite}
 use Rattle.mesh.specs.Accepted.{Accepted, length-triangles}
 
 -- each of these numbers is below n
@@ -52,9 +52,20 @@ fans-within n start corners (end ∷ rest) k d u h =
     let face = take (end - start) (drop start corners) in
     append-within n (fan face) (fans (facesFrom end corners rest)) k d (λ j g. fan-within n face j d (part-under n start (end - start) corners u) g) (λ j g. fans-within n end corners rest j d u g) h
 
--- the corners of triangle t of an accepted mesh
-pub triangle-corners : (coords : List Float) (corners ends : List ℕ) → Accepted coords corners ends → (t : ℕ) (d : Triangle) → t < length corners - 2 * length ends → Corners coords (getD (triangles corners ends) t d)
-unfolding triangles faces
-triangle-corners coords corners ends m t d h =
-    let within = fans-within (length coords / 3) 0 corners ends t d (m .below) (omega (arith, length-triangles coords corners ends m)) in
-    record { a = omega (arith, within .a); b = omega (arith, within .b); c = omega (arith, within .c) }
+module _ (coords : List Float) (corners ends : List ℕ) (m : Accepted coords corners ends) (t : ℕ) (d : Triangle) (h : t < length corners - 2 * length ends) where
+  triangle-within : Within (length coords / 3) (getD (triangles corners ends) t d)
+  unfolding triangles faces
+  triangle-within = fans-within (length coords / 3) 0 corners ends t d (m .below) (omega (arith, length-triangles coords corners ends m))
+
+  -- the corners of triangle t of an accepted mesh
+  pub triangle-corners : Corners coords (getD (triangles corners ends) t d)
+  triangle-corners =
+      let within = triangle-within in
+      record { a = omega (arith, within .a); b = omega (arith, within .b); c = omega (arith, within .c) }
+
+  -- they are finite
+  pub triangle-finite : Finite coords (getD (triangles corners ends) t d)
+  unfolding vertex
+  triangle-finite =
+      let within = triangle-within in
+      record { a = m .finite _ (within .a); b = m .finite _ (within .b); c = m .finite _ (within .c) }

@@ -1,10 +1,13 @@
 // The boxes of a mesh and its triangles, and what is worked out of the mesh's box once a list. The
-// definitions are in specs/Boxes.antt.
+// definitions are in specs/Boxes.antt and specs/Centers.antt.
 ghost use mathlib.Core.Path.{_≡_};
 ghost use Prim.Native.Nat.{_+_, _*_, _<_};
 ghost use lib.ListN.{length};
+ghost use Rattle.float.specs.Order.{Number};
+ghost use Rattle.float.specs.Rules as Rules;
 ghost use Rattle.math.specs.Vectors.{component};
 ghost use Rattle.mesh.specs.Boxes as Boxes;
+ghost use Rattle.mesh.specs.Centers as Centers;
 use crate::Triangle;
 use math::BoundingBox;
 use math::Vec3;
@@ -44,18 +47,70 @@ pub fn triangle_center(coords: &[f64], t: Triangle) -> Vec3
     triangle_box(coords, t).center()
 }
 
-// The centre of a triangle's own box on axis 0, 1 or 2: that axis alone is worked out.
+// `float::min` of a left side that is no NaN.
+fn lower(a: f64, b: f64) -> f64
+    requires { ⌜ Number a ⌝ }
+    ensures { λ r. ⌜ r ≡ Rules.min a b ⌝ }
+{
+    if b < a { b } else { a }
+}
+
+// `float::max` of a left side that is no NaN.
+fn higher(a: f64, b: f64) -> f64
+    requires { ⌜ Number a ⌝ }
+    ensures { λ r. ⌜ r ≡ Rules.max a b ⌝ }
+{
+    if a < b { b } else { a }
+}
+
+// The lowest of three, the first two of which are no NaN.
+fn lowest(a: f64, b: f64, c: f64) -> f64
+    requires { ⌜ Number a × Number b ⌝ }
+    ensures { λ r. ⌜ r ≡ Centers.lowest a b c ⌝ }
+{
+    lower(lower(a, b), c)
+}
+
+// The highest of three, the first two of which are no NaN.
+fn highest(a: f64, b: f64, c: f64) -> f64
+    requires { ⌜ Number a × Number b ⌝ }
+    ensures { λ r. ⌜ r ≡ Centers.highest a b c ⌝ }
+{
+    higher(higher(a, b), c)
+}
+
+// A triangle's own box where its corners are finite: without the empty box it takes fewer steps.
+pub fn finite_box(coords: &[f64], t: Triangle) -> BoundingBox
+    requires { ⌜ Boxes.Corners (now coords) t × Boxes.Finite (now coords) t ⌝ }
+    ensures { λ r. ⌜ r ≡ Boxes.triangleBox (now (coords .entry)) t ⌝ }
+{
+    let a = vertex(coords, t.a);
+    let b = vertex(coords, t.b);
+    let c = vertex(coords, t.c);
+    BoundingBox {
+        min: Vec3 {
+            x: lowest(a.x, b.x, c.x),
+            y: lowest(a.y, b.y, c.y),
+            z: lowest(a.z, b.z, c.z),
+        },
+        max: Vec3 {
+            x: highest(a.x, b.x, c.x),
+            y: highest(a.y, b.y, c.y),
+            z: highest(a.z, b.z, c.z),
+        },
+    }
+}
+
+// The centre of a triangle's own box on axis 0, 1 or 2, where its corners are finite: that axis alone is
+// worked out.
 pub fn center_on(coords: &[f64], t: Triangle, axis: usize) -> f64
-    requires { ⌜ Boxes.Corners (now coords) t × (axis < 3) ⌝ }
+    requires { ⌜ Boxes.Corners (now coords) t × Boxes.Finite (now coords) t × (axis < 3) ⌝ }
     ensures { λ r. ⌜ r ≡ component (Boxes.triangleCenter (now (coords .entry)) t) axis ⌝ }
 {
     let a = coords[3 * (t.a as usize) + axis];
     let b = coords[3 * (t.b as usize) + axis];
     let c = coords[3 * (t.c as usize) + axis];
-    let inf = f64::from_bits(0x7FF0_0000_0000_0000);
-    let low = float::min(float::min(float::min(inf, a), b), c);
-    let high = float::max(float::max(float::max(-inf, a), b), c);
-    (low + high) * 0.5
+    (lowest(a, b, c) + highest(a, b, c)) * 0.5
 }
 
 // The box of all vertices, used or not.

@@ -1,7 +1,6 @@
 -- `center_on` meets its contract: a triangle's centre on one axis depends on that axis alone.
-use lib.Ieee.{ofBits, nanBits, neg}
 use borrow.Author.Needs.{needs}
-use Rattle.mesh.specs.Centers.{center-on}
+use Rattle.mesh.specs.Centers.{center-on, number-on}
 use Rattle.mesh.proofs.boxes.center_on.Statement.{statement}
 use Rattle.mesh.proofs.boxes.center_on.Tie as tie
 
@@ -50,33 +49,22 @@ mul-c-2 c = search needs
 shared-slice-read-c : tie.Need-shared-slice-read-c
 shared-slice-read-c c = search needs
 
-float-from-bits-inf : tie.Need-float-from-bits-inf
-unfolding nanBits
-float-from-bits-inf c = tt
+lowest-requires : tie.Need-lowest-requires
+lowest-requires c κs =
+    let start = c .before .before .before .before .before .before .before in
+    let a = start .args in
+    (number-on (a .coords .now) (a .t .a) (a .axis) (start .pre .2) (start .pre .1 .a), number-on (a .coords .now) (a .t .b) (a .axis) (start .pre .2) (start .pre .1 .b))
 
-min-requires : tie.Need-min-requires
-min-requires c κs = search needs
-
-min-requires-2 : tie.Need-min-requires-2
-min-requires-2 c κs = search needs
-
-min-requires-3 : tie.Need-min-requires-3
-min-requires-3 c κs = search needs
-
-max-requires : tie.Need-max-requires
-max-requires c κs = search needs
-
-max-requires-2 : tie.Need-max-requires-2
-max-requires-2 c κs = search needs
-
-max-requires-3 : tie.Need-max-requires-3
-max-requires-3 c κs = search needs
+highest-requires : tie.Need-highest-requires
+highest-requires c κs =
+    let start = c .before .before .before .before .before .before .before .before in
+    let a = start .args in
+    (number-on (a .coords .now) (a .t .a) (a .axis) (start .pre .2) (start .pre .1 .a), number-on (a .coords .now) (a .t .b) (a .axis) (start .pre .2) (start .pre .1 .b))
 
 returns : tie.Need-returns
-unfolding ofBits neg
 returns c =
-    let a = c .before .before .before .before .before .before .before .before .before .before .before .before .before .args in
-    rw (c .max3 .ensures, c .before .max2 .ensures, c .before .before .max .ensures, c .before .before .before .min3 .ensures, c .before .before .before .before .min2 .ensures, c .before .before .before .before .before .min .ensures, center-on (a .coords .now) (a .t) (a .axis) (c .before .before .before .before .before .before .before .before .before .before .before .before .before .pre .1))
+    let a = c .before .before .before .before .before .before .before .before .before .args in
+    rw (c .highest .ensures, c .before .lowest .ensures, center-on (a .coords .now) (a .t) (a .axis) (c .before .before .before .before .before .before .before .before .before .pre .2))
 
 pub center-on-spec : {M : Type 1} → statement M
 center-on-spec =
@@ -97,11 +85,6 @@ center-on-spec =
     add-c
     mul-c-2
     shared-slice-read-c
-    float-from-bits-inf
-    min-requires
-    min-requires-2
-    min-requires-3
-    max-requires
-    max-requires-2
-    max-requires-3
+    lowest-requires
+    highest-requires
     returns)
