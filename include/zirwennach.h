@@ -112,12 +112,7 @@ uint64_t csx_build_tree(const double *coords, size_t coords_length, const uint32
                         size_t items_length);
 
 /* Checks that a tree keeps these rules for a mesh. The buffers must not overlap. Returns 0 if it does, or:
-     1,000,000           coords is no multiple of 3 numbers, or has more than 65,536 vertices
-     2,000,000           there are more than 65,536 faces or 262,144 corners, the ends fall, or the last
-                         of them (0 if there is none) is not the number of corners
-     3,000,000 + face    this face, counted from 0, has fewer than three corners
-     4,000,000 + face    a corner of this face is no vertex; asked of each face right after 3
-     5,000,000 + vertex  a coordinate of this vertex, counted from 0, is infinite or NaN
+     1,000,000 to 5,000,000 + vertex   as csx_build_tree says of the mesh
      6,000,000           work has fewer places than there are corners
      7,000,000           the tree does not keep the rules
    A call that is refused by 1 to 6 changes nothing. Any other leaves 0 in the first places of work, one
