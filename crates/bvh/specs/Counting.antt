@@ -6,7 +6,7 @@ use native.Mathlib.Omega.{arith}
 use mathlib.Core.Path.{_≡_, refl, _∙_}
 use mathlib.Core.Logic.{⊎-elim}
 use mathlib.Core.Bool.{Bool, true, cond, _&&_}
-use mathlib.Core.List.{List, [], _∷_, _++_}
+use mathlib.Core.List.{List, [], _∷_}
 use lib.Dec.{eqb}
 use lib.ListN.{length, getD, take, drop, set, replicate, length-replicate, getD-replicate, List·getD-append}
 use lib.Seq.{take-suc, getD-set-same, getD-set-other}
@@ -14,6 +14,7 @@ use borrow.Author.Tests.{eq-eqb, ne-eqb}
 use Rattle.lent.specs.Over.{over}
 use Rattle.keys.specs.Sorting.{count}
 use Rattle.keys.specs.SortingTheorems.{eq-or-ne}
+use Rattle.keys.specs.Permutations.{count-append}
 use Rattle.bvh.specs.Once.{one-le}
 use Rattle.bvh.specs.TreeTest.{onceBelow}
 
@@ -62,11 +63,6 @@ pub count-le : (k : ℕ) (l : List ℕ) → count k l ≤ length l
 unfolding count
 count-le k [] = omega arith
 count-le k (x ∷ l) = omega (arith, one-le (eqb k x), count-le k l)
-
-count-append : (k : ℕ) (l l' : List ℕ) → count k (l ++ l') ≡ count k l + count k l'
-unfolding count
-count-append k [] l' = omega arith
-count-append k (x ∷ l) l' = omega (arith, count-append k l l')
 
 -- one item more
 pub count-next : (k j : ℕ) (l : List ℕ) → j < length l → count k (take (j + 1) l) ≡ count k (take j l) + cond (eqb k (getD l j 0)) 1 0

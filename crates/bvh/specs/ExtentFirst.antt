@@ -9,10 +9,9 @@ use lib.Ieee.{Float, eq}
 use borrow.Author.Tests.{le-leb, lt-leb}
 use Rattle.float.specs.Arithmetic.{zero}
 use Rattle.keys.specs.Sorting.{insertBy, sortedBy, sorted, All, AscendingBy, Ascending}
-use Rattle.keys.specs.SortingTheorems.{le-or-lt, insert-here, insert-past, all-le, all-sortedBy, sorted-ascending}
+use Rattle.keys.specs.SortingTheorems.{by-test, le-or-lt, insert-here, insert-past, all-le, all-sortedBy, sorted-ascending}
 use Rattle.bvh.specs.declared.extent.Found.{Found}
 use Rattle.bvh.specs.Extent.{noZero, firstZero, earlier}
-use Rattle.bvh.specs.ExtentZeros.{by-test}
 
 -- ---- one item more
 

@@ -16,11 +16,10 @@ use Rattle.float.specs.TotalOrder.{orderKey}
 use Rattle.float.specs.OrderTheorems.{key-injective}
 use Rattle.float.specs.Order.{Number, isZero, Alike, le-refl, le-trans, le-antisym, eq-le, eq-sym, lt-le, lt-not-le, alike-eq, eq-alike}
 use Rattle.keys.specs.Sorting.{insertBy, sortedBy, sorted, All}
-use Rattle.keys.specs.SortingTheorems.{le-or-lt, insert-here, insert-past, all-map, all-sortedBy}
+use Rattle.keys.specs.SortingTheorems.{by-test, le-or-lt, insert-here, insert-past, all-map, all-sortedBy}
 use Rattle.keys.specs.Permutations.{all-append, all-split}
 use Rattle.mesh.specs.PermutedBoxes.{F64}
 use Rattle.bvh.specs.Extent.{pick, firstZero, unlike}
-use Rattle.bvh.specs.ExtentZeros.{by-test}
 use Rattle.bvh.specs.ExtentFirst.{Small, found, NoZero, found-right, found-left, found-either}
 
 -- ---- the order, taken either way

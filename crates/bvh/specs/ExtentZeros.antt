@@ -15,11 +15,7 @@ use lib.Ieee.Scale.{round-same}
 use borrow.Author.Tests.{eqb-false, lt-ltb, le-ltb}
 use Rattle.float.specs.Arithmetic.{_⊖_}
 use Rattle.float.specs.Order.{Finite, isZero, Alike, add-comm}
-
--- two cases, by a test's outcome
-pub by-test : (b : Bool) {A : Type 0} → (b ≡ true → A) → (b ≡ false → A) → A
-by-test true f g = f refl
-by-test false f g = g refl
+use Rattle.keys.specs.SortingTheorems.{by-test}
 
 -- nothing and b / c with the sign t
 sum-zero : (f : Format) (s t : Bool) (b c : ℕ) → 0 < b → sum f s 0 t b c ≡ round f t b c
