@@ -15,11 +15,12 @@ use Rattle.refusal.specs.declared.Verdict.the-variants as Verdicts
 use Rattle.refusal.specs.Verdicts.{ask, then, written}
 use Rattle.mesh.specs.Questions.{askMesh}
 use Rattle.mesh.specs.Accepted.{Accepted}
+use Rattle.mesh.specs.Mesh.{Mesh, triangleCount}
 use Rattle.bvh.specs.declared.build.Built.{Built}
 use Rattle.bvh.specs.declared.build.Subtree.{Subtree}
 use Rattle.bvh.specs.declared.build.Built.the-variants.{Refused, Nodes}
-use Rattle.bvh.specs.Tree.{Mesh, triangleCount, nodeCount}
-use Rattle.bvh.specs.Node.{Items}
+use Rattle.tree.specs.Tree.{nodeCount}
+use Rattle.mesh.specs.Items.{Items}
 use Rattle.bvh.specs.Builder.{nodeBox, treeOver, size, boxList, nodeList, itemList, layout}
 
 -- ---- the public entry

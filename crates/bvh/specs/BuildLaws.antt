@@ -22,13 +22,16 @@ use Rattle.mesh.specs.Questions.{askMesh}
 use Rattle.mesh.specs.Walks.{both}
 use Rattle.mesh.specs.Triangles as Triangles
 use Rattle.mesh.specs.Accepted.{Accepted, accepted}
+use Rattle.mesh.specs.Mesh.{Mesh, triangleCount, numbers}
 use Rattle.bvh.specs.declared.build.Built.the-variants.{Refused, Nodes}
 use Rattle.bvh.specs.declared.build.Subtree.{Subtree}
-use Rattle.bvh.specs.Tree.{Mesh, triangleCount, nodeCount}
-use Rattle.bvh.specs.TreeTest.{triangleCount-accepted}
-use Rattle.bvh.specs.Node.{Items, items-permuted, items-take, items-drop}
-use Rattle.bvh.specs.Builder.{splitAxis, nodeBox, edges, BoxTree, leafNode, innerNode, treeOver, builderTree, numbers, size, boxList, nodeList, itemList, lists, layout}
-use Rattle.bvh.specs.BuilderLaws.{treeOver-leaf, treeOver-inner, count-treeOver, length-treeOver, length-boxList, length-nodeList, length-numbers, getD-numbers}
+use Rattle.tree.specs.Tree.{nodeCount}
+use Rattle.tree.specs.TreeTest.{triangleCount-accepted}
+use Rattle.mesh.specs.Items.{Items}
+use Rattle.bvh.specs.Node.{items-permuted, items-take, items-drop}
+use Rattle.bvh.specs.Builder.{splitAxis, nodeBox, edges, BoxTree, leafNode, innerNode, treeOver, builderTree, size, boxList, nodeList, itemList, lists, layout}
+use Rattle.tree.specs.Numbers.{length-numbers, getD-numbers}
+use Rattle.bvh.specs.BuilderLaws.{treeOver-leaf, treeOver-inner, count-treeOver, length-treeOver, length-boxList, length-nodeList}
 use Rattle.bvh.specs.BuilderSize.{size-le, nodeCount-some, nodeCount-none}
 use Rattle.bvh.specs.Leaf.{ordered-sorted}
 use Rattle.bvh.specs.Median.{Selected}

@@ -2,10 +2,10 @@
 use Prim.Native.Nat.{ℕ}
 use mathlib.Core.Path.{_≡_}
 use Rattle.refusal.specs.declared.Verdict.the-variants.{Passed}
-use Rattle.bvh.specs.Tree.{Mesh}
+use Rattle.mesh.specs.Mesh.{Mesh}
 use Rattle.bvh.specs.Builder.{layout}
 use Rattle.bvh.specs.BuilderTheorem.{layout-rules}
-use Rattle.bvh.specs.Check.{askRoom, checkAnswer, room-passed, check-accepts}
+use Rattle.tree.specs.Check.{askRoom, checkAnswer, room-passed, check-accepts}
 
 -- where 1 to 6 refuse nothing, the layout of the builder rule's tree is accepted
 pub built-accepted : (m : Mesh) (work : ℕ) → askRoom m work ≡ Passed → checkAnswer m (layout m) work ≡ Passed

@@ -4,7 +4,7 @@ use mathlib.Core.Bool.{true, false, cond}
 use mathlib.Core.List.{List, [], _∷_, _++_}
 use lib.Dec.{eqb, leb}
 use lib.Ieee.{Float, inf}
-use lib.ListN.{length, getD, take, drop}
+use lib.ListN.{length, take, drop}
 use Rattle.float.specs.Arithmetic.{_⊖_}
 use Rattle.float.specs.Rules as Rules
 use Rattle.float.specs.TotalOrder.{orderKey}
@@ -12,16 +12,16 @@ use Rattle.keys.specs.Sorting.{sortedBy, sorted}
 use Rattle.math.specs.declared.Vec3.{Vec3}
 use Rattle.math.specs.declared.BoundingBox.{BoundingBox}
 use Rattle.math.specs.Vectors as Vectors
-use Rattle.math.specs.Boxes.{box, empty}
-use Rattle.mesh.specs.Triangles.{triangle, triangles}
+use Rattle.math.specs.Boxes.{empty, join}
 use Rattle.mesh.specs.Boxes.{triangleCenter}
-use Rattle.bvh.specs.Tree.{Mesh, Tree, triangleCount, ownBox}
+use Rattle.mesh.specs.Mesh.{Mesh, triangleCount, triangleAt, ownBox, allTriangles}
+use Rattle.tree.specs.Tree.{Tree}
 
 -- ---- the split
 
 -- the centre of triangle t
 unfoldable pub centerOf : Mesh → ℕ → Vec3
-centerOf m t = triangleCenter (m .coords) (getD (triangles (m .corners) (m .ends)) t (triangle 0 0 0))
+centerOf m t = triangleCenter (m .coords) (triangleAt m t)
 
 -- its component on an axis
 unfoldable pub centerOn : Mesh → ℕ → ℕ → Float
@@ -67,10 +67,6 @@ rightItems m items = sorted (drop (length items / 2) (byCenter m items))
 
 -- ---- the box of a node
 
--- the box around two boxes, edge by edge; of two equal zeros the left one is kept
-unfoldable pub join : BoundingBox → BoundingBox → BoundingBox
-join a b = box (Vectors.min (a .min) (b .min)) (Vectors.max (a .max) (b .max))
-
 -- a box joined with the own boxes of triangles in their order
 unfoldable pub joinAll : Mesh → BoundingBox → List ℕ → BoundingBox
 joinAll m b [] = b
@@ -101,14 +97,9 @@ build m (suc fuel) items =
 unfoldable pub treeOver : Mesh → List ℕ → BoxTree
 treeOver m items = build m (length items) items
 
--- n numbers from `first` on
-unfoldable pub numbers : ℕ → ℕ → List ℕ
-numbers first zero = []
-numbers first (suc n) = first ∷ numbers (first + 1) n
-
 -- the tree over all triangles
 unfoldable pub builderTree : Mesh → BoxTree
-builderTree m = treeOver m (numbers 0 (triangleCount m))
+builderTree m = treeOver m (allTriangles m)
 
 -- ---- the lent lists
 

@@ -14,9 +14,10 @@ use Rattle.keys.specs.SortingTheorems.{le-or-lt, all-sortedBy, sortedBy-sum, le
 use Rattle.keys.specs.Permutations.{all-append}
 use Rattle.math.specs.declared.BoundingBox.{BoundingBox}
 use Rattle.mesh.specs.Walks.{both}
-use Rattle.bvh.specs.Tree.{Mesh, ownBox, encloses}
-use Rattle.bvh.specs.Builder.{byCenter, leftItems, rightItems, join, joinAll, nodeBox, BoxTree, leafNode, innerNode, build, treeOver, numbers, size, boxList, itemList, nodeList}
-use Rattle.bvh.specs.JoinLaws.{NumberBox, encloses-join, encloses-self, join-numbers, ownBox-numbers}
+use Rattle.mesh.specs.Mesh.{Mesh, ownBox}
+use Rattle.math.specs.Boxes.{encloses, join}
+use Rattle.bvh.specs.Builder.{byCenter, leftItems, rightItems, joinAll, nodeBox, BoxTree, leafNode, innerNode, build, treeOver, size, boxList, itemList, nodeList}
+use Rattle.tree.specs.JoinLaws.{NumberBox, encloses-join, encloses-self, join-numbers, ownBox-numbers}
 
 -- ---- the halves
 
@@ -179,14 +180,3 @@ length-nodeList n i (innerNode b left right) =
     let r = n + 1 + size left in
     let j = i + length (itemList left) in
     omega (arith, length-append (nodeList (n + 1) i left) (nodeList r j right), length-nodeList (n + 1) i left, length-nodeList r j right)
-
-pub length-numbers : (first n : ℕ) → length (numbers first n) ≡ n
-unfolding numbers
-length-numbers first zero = refl
-length-numbers first (suc n) = omega (arith, length-numbers (first + 1) n)
-
-pub getD-numbers : (first n j : ℕ) → j < n → getD (numbers first n) j 0 ≡ first + j
-unfolding numbers
-getD-numbers first zero j h = absurd (omega arith)
-getD-numbers first (suc n) zero h = omega arith
-getD-numbers first (suc n) (suc j) h = getD-numbers (first + 1) n j (omega arith) ∙ omega arith

@@ -8,9 +8,11 @@ use mathlib.Core.List.{List}
 use lib.ListN.{length}
 use borrow.Author.Tests.{eq-eqb, ne-eqb}
 use Rattle.keys.specs.SortingTheorems.{le-or-lt}
-use Rattle.bvh.specs.Tree.{Mesh, triangleCount, nodeCount}
-use Rattle.bvh.specs.Builder.{leftItems, rightItems, treeOver, numbers, builderTree, size, lists, layout}
-use Rattle.bvh.specs.BuilderLaws.{length-left, length-right, treeOver-leaf, treeOver-inner, length-nodeList, length-numbers}
+use Rattle.mesh.specs.Mesh.{Mesh, triangleCount, numbers}
+use Rattle.tree.specs.Tree.{nodeCount}
+use Rattle.bvh.specs.Builder.{leftItems, rightItems, treeOver, builderTree, size, lists, layout}
+use Rattle.tree.specs.Numbers.{length-numbers}
+use Rattle.bvh.specs.BuilderLaws.{length-left, length-right, treeOver-leaf, treeOver-inner, length-nodeList}
 
 module _ (m : Mesh) where
   size-leaf : (items : List ℕ) → length items ≤ 4 → size (treeOver m items) ≡ 1

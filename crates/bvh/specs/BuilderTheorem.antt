@@ -17,10 +17,13 @@ use Rattle.keys.specs.SortingTheorems.{le-or-lt, eq-or-ne, all-at, count-cons}
 use Rattle.math.specs.declared.BoundingBox.{BoundingBox}
 use Rattle.math.specs.Vectors.{at}
 use Rattle.mesh.specs.Accepted.{Accepted, length-triangles}
-use Rattle.bvh.specs.Tree.{Mesh, Tree, triangleCount, ownBox, nodeCount, boxAt, boxOf, startOf, countOf, itemAt, encloses}
-use Rattle.bvh.specs.TreeRules.{Around, Subtree, leaf, inner, TreeRules}
-use Rattle.bvh.specs.Builder.{leftItems, rightItems, nodeBox, BoxTree, leafNode, innerNode, treeOver, numbers, builderTree, edges, size, boxList, itemList, nodeList, lists, layout}
-use Rattle.bvh.specs.BuilderLaws.{length-left, length-right, count-treeOver, length-treeOver, all-treeOver, treeOver-leaf, treeOver-inner, Holds, nodeBox-holds, length-boxList, length-nodeList, length-numbers}
+use Rattle.mesh.specs.Mesh.{Mesh, triangleCount, ownBox, numbers}
+use Rattle.math.specs.Boxes.{encloses}
+use Rattle.tree.specs.Tree.{Tree, nodeCount, boxAt, boxOf, startOf, countOf, itemAt}
+use Rattle.tree.specs.Numbers.{length-numbers, numbers-once}
+use Rattle.tree.specs.TreeRules.{Around, Subtree, leaf, inner, TreeRules}
+use Rattle.bvh.specs.Builder.{leftItems, rightItems, nodeBox, BoxTree, leafNode, innerNode, treeOver, builderTree, edges, size, boxList, itemList, nodeList, lists, layout}
+use Rattle.bvh.specs.BuilderLaws.{length-left, length-right, count-treeOver, length-treeOver, all-treeOver, treeOver-leaf, treeOver-inner, Holds, nodeBox-holds, length-boxList, length-nodeList}
 
 -- ---- built trees are sound
 
@@ -156,22 +159,6 @@ root-stands b =
     }
 
 -- ---- the rules
-
--- of the numbers from `first` on each counts once, and none before
-numbers-none : (first n k : ℕ) → k < first → count k (numbers first n) ≡ 0
-unfolding numbers count
-numbers-none first zero k h = refl
-numbers-none first (suc n) k h = omega (arith, count-cons k first (numbers (first + 1) n), numbers-none (first + 1) n k (omega arith))
-
-numbers-once : (first n k : ℕ) → first ≤ k → k < first + n → count k (numbers first n) ≡ 1
-unfolding numbers
-numbers-once first zero k low high = absurd (omega arith)
-numbers-once first (suc n) k low high =
-    let here = count-cons k first (numbers (first + 1) n) in
-    ⊎-elim
-    (λ le. omega (arith, numbers-none (first + 1) n k (omega arith)))
-    (λ lt. omega (arith, numbers-once (first + 1) n k (omega arith) (omega arith)))
-    (le-or-lt k first)
 
 -- a sound tree over all triangles keeps the rules
 sound-rules : (m : Mesh) (b : BoxTree) → Sound m 32 b → 0 < triangleCount m → length (itemList b) ≡ triangleCount m → ((k : ℕ) → k < triangleCount m → count k (itemList b) ≡ 1) → TreeRules m (lists b)

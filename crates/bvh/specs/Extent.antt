@@ -14,8 +14,8 @@ use Rattle.math.specs.declared.Vec3.{Vec3}
 use Rattle.math.specs.declared.BoundingBox.{BoundingBox}
 use Rattle.math.specs.Vectors.{vec, component}
 use Rattle.math.specs.Boxes.{box}
+use Rattle.mesh.specs.Mesh.{Mesh, ownBox}
 use Rattle.bvh.specs.declared.extent.Found.{Found}
-use Rattle.bvh.specs.Tree.{Mesh, ownBox}
 use Rattle.bvh.specs.Builder.{centerOf}
 
 -- ---- the centres

@@ -19,11 +19,11 @@ use Rattle.math.specs.declared.Vec3.{Vec3}
 use Rattle.math.specs.declared.BoundingBox.{BoundingBox}
 use Rattle.math.specs.Vectors as Vectors
 use Rattle.math.specs.Vectors.{component}
-use Rattle.math.specs.Boxes.{box, empty, include, size, center}
+use Rattle.math.specs.Boxes.{box, empty, include, size, center, join}
 use Rattle.mesh.specs.Boxes.{vertex, triangleBox, triangleCenter}
-use Rattle.bvh.specs.Tree.{Mesh, ownBox}
-use Rattle.bvh.specs.Builder.{centerOf, centerOn, lowest, highest, spread, wider, splitAxis, join, joinAll, nodeBox}
-use Rattle.bvh.specs.JoinLaws.{NumberBox, ownBox-numbers}
+use Rattle.mesh.specs.Mesh.{Mesh, ownBox}
+use Rattle.bvh.specs.Builder.{centerOf, centerOn, lowest, highest, spread, wider, splitAxis, joinAll, nodeBox}
+use Rattle.tree.specs.JoinLaws.{NumberBox, ownBox-numbers}
 use Rattle.bvh.specs.Extent.{lower, higher, withCenter, withCenters, widerAxis, widestAxis, edge, ownEdge, pick, settledEdge, settledBox, joinedEdge, joinedBox}
 use Rattle.bvh.specs.ExtentZeros.{sub-same}
 use Rattle.bvh.specs.ExtentFolds.{next, picked, least, Floats, least-alike, least-zero, least-settled, least-parts}

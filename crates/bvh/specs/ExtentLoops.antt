@@ -9,8 +9,9 @@ use lib.ListN.{length, getD, drop}
 use lib.Seq.{drop-cons}
 use Rattle.keys.specs.Sorting.{sorted}
 use Rattle.math.specs.declared.BoundingBox.{BoundingBox}
-use Rattle.bvh.specs.Tree.{Mesh, ownBox}
-use Rattle.bvh.specs.Builder.{centerOf, join, joinAll, nodeBox}
+use Rattle.mesh.specs.Mesh.{Mesh, ownBox}
+use Rattle.math.specs.Boxes.{join}
+use Rattle.bvh.specs.Builder.{centerOf, joinAll, nodeBox}
 use Rattle.bvh.specs.Extent.{withCenter, withCenters, firstZero, earlier}
 use Rattle.bvh.specs.ExtentFirst.{found-more}
 

@@ -1,31 +1,13 @@
--- What the builder's functions take for granted, of all items of a node and of parts of them.
+-- What the builder's functions take for granted of the items of a node, of parts of them and of another order.
 use Prim.Native.Nat.{ℕ, _+_, _-_, _*_, _<_}
 use native.Mathlib.Omega.{arith}
-use mathlib.Core.Path.{_≡_}
 use mathlib.Core.List.{List}
 use lib.ListN.{length, getD, take, drop, length-take, length-drop}
 use lib.Seq.{getD-take, getD-drop}
 use Rattle.keys.specs.Sorting.{Permutation}
 use Rattle.keys.specs.Permutations.{each-permuted}
-use Rattle.mesh.specs.Accepted.{Accepted}
-use Rattle.mesh.specs.Triangles as Triangles
-use Rattle.bvh.specs.Tree.{Mesh}
-
--- an accepted mesh, `sides`, which says how triangles are found in it, and the items of a node, which are triangles of it
-pub record Items (m : Mesh) (given : ℕ) (items : List ℕ) : Type 0 where
-  pub accepted : Accepted (m .coords) (m .corners) (m .ends)
-  pub sides : given ≡ Triangles.sides (m .ends)
-  pub below : (j : ℕ) → j < length items → getD items j 0 < length (m .corners) - 2 * length (m .ends)
-
--- one triangle of it
-pub record Item (m : Mesh) (given t : ℕ) : Type 0 where
-  pub accepted : Accepted (m .coords) (m .corners) (m .ends)
-  pub sides : given ≡ Triangles.sides (m .ends)
-  pub below : t < length (m .corners) - 2 * length (m .ends)
-
--- the item at a place
-pub item-at : {m : Mesh} {sides : ℕ} {items : List ℕ} → Items m sides items → (j : ℕ) → j < length items → Item m sides (getD items j 0)
-item-at a j h = record { accepted = a .accepted; sides = a .sides; below = a .below j h }
+use Rattle.mesh.specs.Mesh.{Mesh}
+use Rattle.mesh.specs.Items.{Items}
 
 module _ {m : Mesh} {sides : ℕ} (items : List ℕ) (given : Items m sides items) where
   -- the items in another order

@@ -5,7 +5,7 @@ ghost use Prim.Native.Nat.{_+_, _*_, _≤_, _<_};
 ghost use lib.ListN.{length, set};
 ghost use lib.Seq.{sets};
 ghost use Rattle.keys.specs.Sorting.{sorted};
-ghost use Rattle.bvh.specs.Tree as Tree;
+ghost use Rattle.mesh.specs.Mesh as Mesh;
 ghost use Rattle.bvh.specs.Node as Node;
 ghost use Rattle.bvh.specs.Builder as Builder;
 ghost use Rattle.bvh.specs.Build as Build;
@@ -65,8 +65,8 @@ fn build_leaf(
     n: usize,
     i: usize,
 ) -> Subtree
-    requires { ⌜ Build.Room (Tree.mesh (now coords) (now corners) (now ends)) sides (length (now boxes)) (length (now nodes)) (now items) n i × (length (now items) ≤ 4) ⌝ }
-    ensures { λ r. ⌜ Build.Writes (Tree.mesh (now (coords .entry)) (now (corners .entry)) (now (ends .entry))) (now (boxes .entry)) (now (nodes .entry)) (now (items .entry)) n i r (now (boxes .exit)) (now (nodes .exit)) (now (items .exit)) ⌝ }
+    requires { ⌜ Build.Room (Mesh.mesh (now coords) (now corners) (now ends)) sides (length (now boxes)) (length (now nodes)) (now items) n i × (length (now items) ≤ 4) ⌝ }
+    ensures { λ r. ⌜ Build.Writes (Mesh.mesh (now (coords .entry)) (now (corners .entry)) (now (ends .entry))) (now (boxes .entry)) (now (nodes .entry)) (now (items .entry)) n i r (now (boxes .exit)) (now (nodes .exit)) (now (items .exit)) ⌝ }
 {
     sort_items(items);
     let bounds = leaf_box(coords, corners, ends, sides, items);
@@ -91,8 +91,8 @@ fn build_node(
     n: usize,
     i: usize,
 ) -> Subtree
-    requires { ⌜ Build.Room (Tree.mesh (now coords) (now corners) (now ends)) sides (length (now boxes)) (length (now nodes)) (now items) n i ⌝ }
-    ensures { λ r. ⌜ Build.Writes (Tree.mesh (now (coords .entry)) (now (corners .entry)) (now (ends .entry))) (now (boxes .entry)) (now (nodes .entry)) (now (items .entry)) n i r (now (boxes .exit)) (now (nodes .exit)) (now (items .exit)) ⌝ }
+    requires { ⌜ Build.Room (Mesh.mesh (now coords) (now corners) (now ends)) sides (length (now boxes)) (length (now nodes)) (now items) n i ⌝ }
+    ensures { λ r. ⌜ Build.Writes (Mesh.mesh (now (coords .entry)) (now (corners .entry)) (now (ends .entry))) (now (boxes .entry)) (now (nodes .entry)) (now (items .entry)) n i r (now (boxes .exit)) (now (nodes .exit)) (now (items .exit)) ⌝ }
 {
     let places = items.len();
     if places <= 4 {
@@ -145,7 +145,7 @@ fn build_node(
 // Writes the numbers from 0 on.
 fn number_items(items: &mut [u32])
     requires { ⌜ length (now items) ≤ 262144 ⌝ }
-    ensures { λ _. ⌜ now (items .exit) ≡ Builder.numbers 0 (length (now (items .entry))) ⌝ }
+    ensures { λ _. ⌜ now (items .exit) ≡ Mesh.numbers 0 (length (now (items .entry))) ⌝ }
 {
     let mut k = 0;
     while k < items.len() {
@@ -163,8 +163,8 @@ fn build_all(
     nodes: &mut [u32],
     items: &mut [u32],
 ) -> Subtree
-    requires { ⌜ Build.Whole (Tree.mesh (now coords) (now corners) (now ends)) (length (now boxes)) (length (now nodes)) (length (now items)) ⌝ }
-    ensures { λ r. ⌜ Build.Writes (Tree.mesh (now (coords .entry)) (now (corners .entry)) (now (ends .entry))) (now (boxes .entry)) (now (nodes .entry)) (Builder.numbers 0 (length (now (items .entry)))) 0 0 r (now (boxes .exit)) (now (nodes .exit)) (now (items .exit)) ⌝ }
+    requires { ⌜ Build.Whole (Mesh.mesh (now coords) (now corners) (now ends)) (length (now boxes)) (length (now nodes)) (length (now items)) ⌝ }
+    ensures { λ r. ⌜ Build.Writes (Mesh.mesh (now (coords .entry)) (now (corners .entry)) (now (ends .entry))) (now (boxes .entry)) (now (nodes .entry)) (Mesh.numbers 0 (length (now (items .entry)))) 0 0 r (now (boxes .exit)) (now (nodes .exit)) (now (items .exit)) ⌝ }
 {
     number_items(items);
     let sides = mesh::triangles::sides(ends);
@@ -180,7 +180,7 @@ pub fn ask_build(
     nodes: usize,
     items: usize,
 ) -> Verdict
-    ensures { λ r. ⌜ r ≡ Build.askBuild (Tree.mesh (now (coords .entry)) (now (corners .entry)) (now (ends .entry))) boxes nodes items ⌝ }
+    ensures { λ r. ⌜ r ≡ Build.askBuild (Mesh.mesh (now (coords .entry)) (now (corners .entry)) (now (ends .entry))) boxes nodes items ⌝ }
 {
     let asked = mesh::questions::ask_mesh(coords, corners, ends);
     match asked {
@@ -206,7 +206,7 @@ pub fn build(
     nodes: &mut [u32],
     items: &mut [u32],
 ) -> Built
-    ensures { λ r. ⌜ Build.Builds (Tree.mesh (now (coords .entry)) (now (corners .entry)) (now (ends .entry))) (now (boxes .entry)) (now (nodes .entry)) (now (items .entry)) r (now (boxes .exit)) (now (nodes .exit)) (now (items .exit)) ⌝ }
+    ensures { λ r. ⌜ Build.Builds (Mesh.mesh (now (coords .entry)) (now (corners .entry)) (now (ends .entry))) (now (boxes .entry)) (now (nodes .entry)) (now (items .entry)) r (now (boxes .exit)) (now (nodes .exit)) (now (items .exit)) ⌝ }
 {
     let verdict = ask_build(coords, corners, ends, boxes.len(), nodes.len(), items.len());
     match verdict {

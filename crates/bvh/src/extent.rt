@@ -5,13 +5,13 @@ ghost use Prim.Native.Nat.{_<_};
 ghost use lib.ListN.{length, take, drop};
 ghost use Rattle.keys.specs.Sorting.{sorted};
 ghost use Rattle.math.specs.Boxes as Boxes;
-ghost use Rattle.bvh.specs.Tree as Tree;
-ghost use Rattle.bvh.specs.Node as Node;
+ghost use Rattle.mesh.specs.Items as Items;
+ghost use Rattle.mesh.specs.Mesh as Mesh;
 ghost use Rattle.bvh.specs.Builder as Builder;
 ghost use Rattle.bvh.specs.Extent as Extents;
-use crate::check::own_box;
 use math::BoundingBox;
 use math::Vec3;
+use mesh::boxes::own_box;
 
 // The lower of `lo` and a centre; one that is not finite does not count.
 fn lower(lo: f64, c: f64) -> f64
@@ -61,8 +61,8 @@ fn centers_of(
     sides: usize,
     items: &[u32],
 ) -> BoundingBox
-    requires { ⌜ Node.Items (Tree.mesh (now coords) (now corners) (now ends)) sides (now items) ⌝ }
-    ensures { λ r. ⌜ r ≡ Extents.withCenters (Tree.mesh (now (coords .entry)) (now (corners .entry)) (now (ends .entry))) Boxes.empty (now (items .entry)) ⌝ }
+    requires { ⌜ Items.Items (Mesh.mesh (now coords) (now corners) (now ends)) sides (now items) ⌝ }
+    ensures { λ r. ⌜ r ≡ Extents.withCenters (Mesh.mesh (now (coords .entry)) (now (corners .entry)) (now (ends .entry))) Boxes.empty (now (items .entry)) ⌝ }
 {
     let mut b = BoundingBox::empty();
     let mut j = 0;
@@ -119,8 +119,8 @@ pub struct Split {
 
 // How a node's items are split, in whatever order they stand.
 pub fn split_of(coords: &[f64], corners: &[u32], ends: &[u32], sides: usize, items: &[u32]) -> Split
-    requires { ⌜ Node.Items (Tree.mesh (now coords) (now corners) (now ends)) sides (now items) ⌝ }
-    ensures { λ r. ⌜ (r .axis ≡ Builder.splitAxis (Tree.mesh (now (coords .entry)) (now (corners .entry)) (now (ends .entry))) (sorted (now (items .entry)))) × (r .pivot < 18446744073709551615) ⌝ }
+    requires { ⌜ Items.Items (Mesh.mesh (now coords) (now corners) (now ends)) sides (now items) ⌝ }
+    ensures { λ r. ⌜ (r .axis ≡ Builder.splitAxis (Mesh.mesh (now (coords .entry)) (now (corners .entry)) (now (ends .entry))) (sorted (now (items .entry)))) × (r .pivot < 18446744073709551615) ⌝ }
 {
     let centers = centers_of(coords, corners, ends, sides, items);
     let axis = widest_axis(centers.size());
@@ -138,8 +138,8 @@ pub fn leaf_box(
     sides: usize,
     items: &[u32],
 ) -> BoundingBox
-    requires { ⌜ Node.Items (Tree.mesh (now coords) (now corners) (now ends)) sides (now items) × (0 < length (now items)) ⌝ }
-    ensures { λ r. ⌜ r ≡ Builder.nodeBox (Tree.mesh (now (coords .entry)) (now (corners .entry)) (now (ends .entry))) (now (items .entry)) ⌝ }
+    requires { ⌜ Items.Items (Mesh.mesh (now coords) (now corners) (now ends)) sides (now items) × (0 < length (now items)) ⌝ }
+    ensures { λ r. ⌜ r ≡ Builder.nodeBox (Mesh.mesh (now (coords .entry)) (now (corners .entry)) (now (ends .entry))) (now (items .entry)) ⌝ }
 {
     let mut b = own_box(coords, corners, ends, sides, items[0]);
     let mut j = 1;
@@ -181,8 +181,8 @@ fn zero_edge(
     upper: bool,
     axis: u64,
 ) -> f64
-    requires { ⌜ Node.Items (Tree.mesh (now coords) (now corners) (now ends)) sides (now items) ⌝ }
-    ensures { λ r. ⌜ r ≡ Extents.firstZero (Extents.ownEdge (Tree.mesh (now (coords .entry)) (now (corners .entry)) (now (ends .entry))) upper axis) (sorted (now (items .entry))) .edge ⌝ }
+    requires { ⌜ Items.Items (Mesh.mesh (now coords) (now corners) (now ends)) sides (now items) ⌝ }
+    ensures { λ r. ⌜ r ≡ Extents.firstZero (Extents.ownEdge (Mesh.mesh (now (coords .entry)) (now (corners .entry)) (now (ends .entry))) upper axis) (sorted (now (items .entry))) .edge ⌝ }
 {
     let mut found = Found {
         item: 0xFFFF_FFFF,
@@ -229,8 +229,8 @@ fn joined_edge(
     a: f64,
     b: f64,
 ) -> f64
-    requires { ⌜ Node.Items (Tree.mesh (now coords) (now corners) (now ends)) sides (now items) ⌝ }
-    ensures { λ r. ⌜ r ≡ Extents.joinedEdge (Tree.mesh (now (coords .entry)) (now (corners .entry)) (now (ends .entry))) (now (items .entry)) upper axis a b ⌝ }
+    requires { ⌜ Items.Items (Mesh.mesh (now coords) (now corners) (now ends)) sides (now items) ⌝ }
+    ensures { λ r. ⌜ r ≡ Extents.joinedEdge (Mesh.mesh (now (coords .entry)) (now (corners .entry)) (now (ends .entry))) (now (items .entry)) upper axis a b ⌝ }
 {
     if unlike(a, b) {
         return zero_edge(coords, corners, ends, sides, items, upper, axis);
@@ -249,8 +249,8 @@ pub fn inner_box(
     left: BoundingBox,
     right: BoundingBox,
 ) -> BoundingBox
-    requires { ⌜ Node.Items (Tree.mesh (now coords) (now corners) (now ends)) sides (now items) × (0 < half) × (half < length (now items)) × (left ≡ Builder.nodeBox (Tree.mesh (now coords) (now corners) (now ends)) (sorted (take half (now items)))) × (right ≡ Builder.nodeBox (Tree.mesh (now coords) (now corners) (now ends)) (sorted (drop half (now items)))) ⌝ }
-    ensures { λ r. ⌜ r ≡ Builder.nodeBox (Tree.mesh (now (coords .entry)) (now (corners .entry)) (now (ends .entry))) (sorted (now (items .entry))) ⌝ }
+    requires { ⌜ Items.Items (Mesh.mesh (now coords) (now corners) (now ends)) sides (now items) × (0 < half) × (half < length (now items)) × (left ≡ Builder.nodeBox (Mesh.mesh (now coords) (now corners) (now ends)) (sorted (take half (now items)))) × (right ≡ Builder.nodeBox (Mesh.mesh (now coords) (now corners) (now ends)) (sorted (drop half (now items)))) ⌝ }
+    ensures { λ r. ⌜ r ≡ Builder.nodeBox (Mesh.mesh (now (coords .entry)) (now (corners .entry)) (now (ends .entry))) (sorted (now (items .entry))) ⌝ }
 {
     BoundingBox {
         min: Vec3 {

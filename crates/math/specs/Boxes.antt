@@ -1,4 +1,4 @@
--- csx's `BoundingBox` (math.rs): each method as csx writes it. Definitions only.
+-- csx's `BoundingBox` (math.rs): each method as csx writes it, and `join` and `encloses` for box trees. Definitions only.
 use mathlib.Core.Bool.{Bool, true, false, not, cond, _&&_, _||_}
 use lib.Ieee.{Float, inf, le}
 use Rattle.float.specs.Arithmetic.{half}
@@ -30,6 +30,18 @@ include b p = box (Vectors.min (b .min) p) (Vectors.max (b .max) p)
 -- the smallest box around two; an empty one adds nothing
 unfoldable pub union : BoundingBox → BoundingBox → BoundingBox
 union a b = cond (isEmpty a) b (cond (isEmpty b) a (box (Vectors.min (a .min) (b .min)) (Vectors.max (a .max) (b .max))))
+
+-- the box around two boxes, edge by edge; of two equal zeros the left one is kept
+unfoldable pub join : BoundingBox → BoundingBox → BoundingBox
+join a b = box (Vectors.min (a .min) (b .min)) (Vectors.max (a .max) (b .max))
+
+-- whether box b encloses box c, compared as numbers
+unfoldable pub encloses : BoundingBox → BoundingBox → Bool
+encloses b c =
+    le (b .min .x) (c .min .x) && le (b .min .y) (c .min .y) && le (b .min .z) (c .min .z)
+    && le (c .max .x) (b .max .x)
+    && le (c .max .y) (b .max .y)
+    && le (c .max .z) (b .max .z)
 
 -- the box larger by d on every side
 unfoldable pub expanded : BoundingBox → Float → BoundingBox

@@ -192,6 +192,28 @@ impl BoundingBox {
         }
     }
 
+    // The box around two; unlike `union` it takes no box for empty.
+    pub fn join(self, o: BoundingBox) -> BoundingBox
+        ensures { λ r. ⌜ r ≡ Boxes.join self o ⌝ }
+    {
+        BoundingBox {
+            min: self.min.min(o.min),
+            max: self.max.max(o.max),
+        }
+    }
+
+    // Whether the box encloses box `o`, compared as numbers.
+    pub fn encloses(self, o: BoundingBox) -> bool
+        ensures { λ r. ⌜ r ≡ Boxes.encloses self o ⌝ }
+    {
+        (self.min.x <= o.min.x)
+            & (self.min.y <= o.min.y)
+            & (self.min.z <= o.min.z)
+            & (o.max.x <= self.max.x)
+            & (o.max.y <= self.max.y)
+            & (o.max.z <= self.max.z)
+    }
+
     pub fn expanded(self, d: f64) -> BoundingBox
         ensures { λ r. ⌜ r ≡ Boxes.expanded self d ⌝ }
     {

@@ -6,7 +6,9 @@ pub mod Walks
 pub mod Accepted
 pub mod TriangleLaws
 pub mod Boxes
+pub mod Mesh
 pub mod Centers
 pub mod Corners
+pub mod Items
 pub mod PermutedBoxes
 pub mod Rewriting

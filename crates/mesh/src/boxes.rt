@@ -1,13 +1,16 @@
 // The boxes of a mesh and its triangles, and what is worked out of the mesh's box once a list. The
 // definitions are in specs/Boxes.antt and specs/Centers.antt.
 ghost use mathlib.Core.Path.{_≡_};
-ghost use Prim.Native.Nat.{_+_, _*_, _<_};
+ghost use Prim.Native.Nat.{_+_, _-_, _*_, _<_};
 ghost use lib.ListN.{length};
 ghost use Rattle.float.specs.Order.{Number};
 ghost use Rattle.float.specs.Rules as Rules;
 ghost use Rattle.math.specs.Vectors.{component};
+ghost use Rattle.mesh.specs.Accepted.{Accepted};
 ghost use Rattle.mesh.specs.Boxes as Boxes;
 ghost use Rattle.mesh.specs.Centers as Centers;
+ghost use Rattle.mesh.specs.Mesh as Mesh;
+ghost use Rattle.mesh.specs.Triangles as Triangles;
 use crate::Triangle;
 use math::BoundingBox;
 use math::Vec3;
@@ -99,6 +102,15 @@ pub fn finite_box(coords: &[f64], t: Triangle) -> BoundingBox
             z: highest(a.z, b.z, c.z),
         },
     }
+}
+
+// The own box of triangle `t` of an accepted mesh, whose `sides` are as `triangles::sides` says.
+pub fn own_box(coords: &[f64], corners: &[u32], ends: &[u32], sides: usize, t: u32) -> BoundingBox
+    requires { ⌜ Accepted (now coords) (now corners) (now ends) × (sides ≡ Triangles.sides (now ends)) × (t < length (now corners) - 2 * length (now ends)) ⌝ }
+    ensures { λ r. ⌜ r ≡ Mesh.ownBox (Mesh.mesh (now (coords .entry)) (now (corners .entry)) (now (ends .entry))) t ⌝ }
+{
+    let triangle = crate::triangles::triangle(corners, ends, sides, t as usize);
+    finite_box(coords, triangle)
 }
 
 // The centre of a triangle's own box on axis 0, 1 or 2, where its corners are finite: that axis alone is

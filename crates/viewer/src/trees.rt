@@ -1,5 +1,6 @@
 // The tree entries as C functions.
-ghost use Rattle.bvh.specs.Tree as Tree;
+ghost use Rattle.mesh.specs.Mesh as Mesh;
+ghost use Rattle.tree.specs.Tree as Tree;
 ghost use Rattle.viewer.specs.Trees as Trees;
 use bvh::build::Built;
 use refusal::Verdict;
@@ -14,7 +15,7 @@ pub extern "C" fn csx_build_tree(
     nodes: &mut [u32],
     items: &mut [u32],
 ) -> u64
-    ensures { λ r. ⌜ Trees.Builds (Tree.mesh (now (coords .entry)) (now (corners .entry)) (now (ends .entry))) (now (boxes .entry)) (now (nodes .entry)) (now (items .entry)) r (now (boxes .exit)) (now (nodes .exit)) (now (items .exit)) ⌝ }
+    ensures { λ r. ⌜ Trees.Builds (Mesh.mesh (now (coords .entry)) (now (corners .entry)) (now (ends .entry))) (now (boxes .entry)) (now (nodes .entry)) (now (items .entry)) r (now (boxes .exit)) (now (nodes .exit)) (now (items .exit)) ⌝ }
 {
     let built = bvh::build::build(coords, corners, ends, boxes, nodes, items);
     match built {
@@ -35,9 +36,9 @@ pub extern "C" fn csx_check_tree(
     items: &[u32],
     work: &mut [u64],
 ) -> u64
-    ensures { λ r. ⌜ Trees.Checks (Tree.mesh (now (coords .entry)) (now (corners .entry)) (now (ends .entry))) (Tree.tree (now (boxes .entry)) (now (nodes .entry)) (now (items .entry))) (now (work .entry)) r (now (work .exit)) ⌝ }
+    ensures { λ r. ⌜ Trees.Checks (Mesh.mesh (now (coords .entry)) (now (corners .entry)) (now (ends .entry))) (Tree.tree (now (boxes .entry)) (now (nodes .entry)) (now (items .entry))) (now (work .entry)) r (now (work .exit)) ⌝ }
 {
-    let checked = bvh::check::check_tree(coords, corners, ends, boxes, nodes, items, work);
+    let checked = tree::check::check_tree(coords, corners, ends, boxes, nodes, items, work);
     match checked {
         Verdict::Refused(refusal) => refusal.code(),
         Verdict::Passed => 0,

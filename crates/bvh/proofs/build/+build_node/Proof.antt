@@ -8,7 +8,7 @@ use lib.Seq.{length-take-le, take-all, take-at, drop-at}
 use borrow.Author.Needs.{needs}
 use Rattle.keys.specs.Sorting.{sorted}
 use Rattle.keys.specs.Permutations.{length-permuted}
-use Rattle.bvh.specs.Tree.{mesh}
+use Rattle.mesh.specs.Mesh.{mesh}
 use Rattle.bvh.specs.MedianTheorem.{splitAxis-lt}
 use Rattle.bvh.specs.BuildLaws.{room-one, left-room, right-room, written-same, written-items, first-bounds, second-bounds, halves-places, small-node, inner-writes}
 use borrow.Fn.Kinds.{In}

@@ -5,8 +5,8 @@ use mathlib.Core.Path.{_≡_, sym, _∙_}
 use lib.ListN.{length}
 use borrow.Author.Needs.{needs}
 use Rattle.mesh.specs.Accepted.{accepted, asked-passed, asked-refused}
-use Rattle.bvh.specs.Tree.{mesh, triangleCount}
-use Rattle.bvh.specs.TreeTest.{triangleCount-accepted}
+use Rattle.mesh.specs.Mesh.{mesh, triangleCount}
+use Rattle.tree.specs.TreeTest.{triangleCount-accepted}
 use Rattle.bvh.specs.Build.{askBuild, room}
 use Rattle.bvh.proofs.build.ask_build.Statement.{statement}
 use Rattle.bvh.proofs.build.ask_build.Tie as tie

@@ -5,8 +5,8 @@ use mathlib.Core.Path.{_≡_, sym, _∙_}
 use lib.ListN.{length}
 use lib.Seq.{length-take-le}
 use borrow.Author.Needs.{needs}
-use Rattle.bvh.specs.Tree.{mesh, triangleCount}
-use Rattle.bvh.specs.TreeTest.{triangleCount-accepted}
+use Rattle.mesh.specs.Mesh.{mesh, triangleCount}
+use Rattle.tree.specs.TreeTest.{triangleCount-accepted}
 use Rattle.bvh.specs.BuildLaws.{accepted-mesh, rooms, builds-refused, builds-none, builds-room, builds-all}
 use Rattle.bvh.proofs.build.build.Statement.{statement}
 use Rattle.bvh.proofs.build.build.Tie as tie

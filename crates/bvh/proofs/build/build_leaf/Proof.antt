@@ -4,7 +4,7 @@ use mathlib.Core.Path.{refl, ap, _∙_}
 use borrow.Author.Needs.{needs}
 use Rattle.keys.specs.Sorting.{sorted}
 use Rattle.keys.specs.SortingTheorems.{length-sorted, sorted-permutation}
-use Rattle.bvh.specs.Tree.{mesh}
+use Rattle.mesh.specs.Mesh.{mesh}
 use Rattle.bvh.specs.Node.{items-permuted}
 use Rattle.bvh.specs.Builder.{nodeBox}
 use Rattle.bvh.specs.BuildLaws.{room-one, leaf-writes}

@@ -8,8 +8,8 @@ use lib.ListN.{length, getD, set, length-set}
 use lib.Seq.{getD-set-same, getD-set-other, ext-getD}
 use borrow.Author.Needs.{needs}
 use Rattle.keys.specs.SortingTheorems.{eq-or-ne}
-use Rattle.bvh.specs.Builder.{numbers}
-use Rattle.bvh.specs.BuilderLaws.{length-numbers, getD-numbers}
+use Rattle.mesh.specs.Mesh.{numbers}
+use Rattle.tree.specs.Numbers.{length-numbers, getD-numbers}
 use Rattle.bvh.proofs.build.number_items.Statement.{statement}
 use Rattle.bvh.proofs.build.number_items.Tie as tie
 

@@ -11,7 +11,7 @@ use Rattle.mesh.specs.Accepted.{fanned}
 use Rattle.mesh.specs.Triangles.{triangle}
 use Rattle.mesh.specs.Boxes.{triangleCenter}
 use Rattle.mesh.specs.Corners.{triangle-corners, triangle-finite}
-use Rattle.bvh.specs.Tree.{mesh}
+use Rattle.mesh.specs.Mesh.{mesh}
 use Rattle.bvh.specs.Builder.{centerOf}
 use Rattle.bvh.specs.Extent.{withCenters}
 use Rattle.bvh.specs.ExtentLoops.{withCenters-next}

@@ -1,7 +1,7 @@
 -- `inner_box` meets its contract: the calls promise the edges of the joined box, and the coordinates are lent as numbers of the format f64.
 use native.Mathlib.Omega.{arith}
 use borrow.Author.Needs.{needs}
-use Rattle.bvh.specs.Tree.{mesh}
+use Rattle.mesh.specs.Mesh.{mesh}
 use Rattle.bvh.specs.Extent.{joinedBox}
 use Rattle.bvh.specs.ExtentLaws.{joined-halves}
 use Rattle.bvh.proofs.extent.inner_box.Statement.{statement}

@@ -6,8 +6,9 @@ use mathlib.Core.Path.{_≡_, sym, _∙_}
 use mathlib.Core.List.{[]}
 use lib.ListN.{length, drop, drop-of-length-le}
 use borrow.Author.Needs.{needs}
-use Rattle.bvh.specs.Tree.{mesh}
-use Rattle.bvh.specs.Builder.{join, joinAll, nodeBox}
+use Rattle.mesh.specs.Mesh.{mesh}
+use Rattle.math.specs.Boxes.{join}
+use Rattle.bvh.specs.Builder.{joinAll, nodeBox}
 use Rattle.bvh.specs.ExtentLoops.{nodeBox-first, joinAll-next}
 use Rattle.bvh.proofs.extent.leaf_box.Statement.{statement}
 use Rattle.bvh.proofs.extent.leaf_box.Tie as tie

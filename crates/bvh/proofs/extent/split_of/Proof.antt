@@ -1,6 +1,6 @@
 -- `split_of` meets its contract: the axis on which the box around the centres is widest is that of the node, whatever the items' order.
 use borrow.Author.Needs.{needs}
-use Rattle.bvh.specs.Tree.{mesh}
+use Rattle.mesh.specs.Mesh.{mesh}
 use Rattle.bvh.specs.ExtentLaws.{centers-axis}
 use Rattle.bvh.proofs.extent.split_of.Statement.{statement}
 use Rattle.bvh.proofs.extent.split_of.Tie as tie

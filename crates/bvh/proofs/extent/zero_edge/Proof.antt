@@ -7,7 +7,7 @@ use mathlib.Core.List.{[]}
 use lib.ListN.{length, drop, drop-of-length-le}
 use borrow.Author.Needs.{needs}
 use Rattle.keys.specs.Sorting.{sortedBy, sorted}
-use Rattle.bvh.specs.Tree.{mesh}
+use Rattle.mesh.specs.Mesh.{mesh}
 use Rattle.bvh.specs.Extent.{ownEdge, noZero, firstZero}
 use Rattle.bvh.specs.ExtentLoops.{firstZero-next}
 use Rattle.bvh.proofs.extent.zero_edge.Statement.{statement}

@@ -5,8 +5,9 @@ use mathlib.Core.List.{List}
 use borrow.Author.Needs.{needs}
 use Rattle.refusal.specs.declared.Verdict.{Verdict}
 use Rattle.refusal.specs.Verdicts.{returned}
-use Rattle.bvh.specs.Tree.{Mesh, Tree}
-use Rattle.bvh.specs.Check as Check
+use Rattle.mesh.specs.Mesh.{Mesh}
+use Rattle.tree.specs.Tree.{Tree}
+use Rattle.tree.specs.Check as Check
 use Rattle.viewer.specs.Trees.{Checks}
 use Rattle.viewer.proofs.trees.csx_check_tree.Statement.{statement}
 use Rattle.viewer.proofs.trees.csx_check_tree.Tie as tie

@@ -1,0 +1,10 @@
+-- The definitions of crate `tree`, and their theorems.
+pub mod Tree
+pub mod TreeRules
+pub mod TreeTest
+pub mod TreeTheorem
+pub mod Once
+pub mod Numbers
+pub mod Counting
+pub mod JoinLaws
+pub mod Check
