@@ -1,0 +1,96 @@
+// How a ray meets boxes and triangles: csx's `ray_hits_box` and `ray_triangle`. The definitions are in
+// specs/Rays.antt.
+ghost use mathlib.Core.Path.{_≡_};
+ghost use Rattle.intersect.specs.Rays as Rays;
+use math::BoundingBox;
+use math::Vec3;
+
+// How near an edge is too near to say, csx's EPS; its negation, and the rounded 1 + EPS and 1 - EPS.
+const RIM: f64 = 1e-9;
+
+const MINUS_RIM: f64 = -1e-9;
+
+const ONE_PLUS_RIM: f64 = 1.000000001;
+
+const ONE_MINUS_RIM: f64 = 0.999999999;
+
+// What a ray does at a triangle.
+pub enum RayHit {
+    Miss,
+    Hit,
+    // The ray passes an edge or a corner too closely to say.
+    Degenerate,
+}
+
+// Where the ray meets the nearer plane of a slab on one axis.
+fn near(o: f64, inv: f64, lo: f64, hi: f64) -> f64
+    ensures { λ r. ⌜ r ≡ Rays.near o inv lo hi ⌝ }
+{
+    let a = (lo - o) * inv;
+    let c = (hi - o) * inv;
+    if a <= c { a } else { c }
+}
+
+// Where the ray meets the farther plane of a slab on one axis.
+fn far(o: f64, inv: f64, lo: f64, hi: f64) -> f64
+    ensures { λ r. ⌜ r ≡ Rays.far o inv lo hi ⌝ }
+{
+    let a = (lo - o) * inv;
+    let c = (hi - o) * inv;
+    if a <= c { c } else { a }
+}
+
+// Whether the ray from `o`, with `inv` one over its direction, meets the box.
+pub fn ray_hits_box(o: Vec3, inv: Vec3, b: BoundingBox) -> bool
+    ensures { λ r. ⌜ r ≡ Rays.rayHitsBox o inv b ⌝ }
+{
+    let inf = f64::from_bits(0x7FF0_0000_0000_0000);
+    let t0 = float::max(0.0, near(o.x, inv.x, b.min.x, b.max.x));
+    let t1 = float::max(t0, near(o.y, inv.y, b.min.y, b.max.y));
+    let t2 = float::max(t1, near(o.z, inv.z, b.min.z, b.max.z));
+    let s0 = float::min(inf, far(o.x, inv.x, b.min.x, b.max.x));
+    let s1 = float::min(s0, far(o.y, inv.y, b.min.y, b.max.y));
+    let s2 = float::min(s1, far(o.z, inv.z, b.min.z, b.max.z));
+    t2 <= s2
+}
+
+// Whether the triangle with edges e1 and e2 has no area, or the ray is parallel to it.
+fn parallel(det: f64, e1: Vec3, e2: Vec3) -> bool
+    ensures { λ r. ⌜ r ≡ Rays.parallel det e1 e2 ⌝ }
+{
+    let scale = e1.norm() * e2.norm();
+    (scale == 0.0) | (float::abs(det) <= 1e-12 * scale)
+}
+
+// The ray from `o` in direction `d` and the triangle a, b, c. Of csx's tests that lead to a miss the first takes two
+// roots; here it comes after the others.
+pub fn ray_triangle(o: Vec3, d: Vec3, a: Vec3, b: Vec3, c: Vec3) -> RayHit
+    ensures { λ r. ⌜ r ≡ Rays.rayTriangle o d a b c ⌝ }
+{
+    let e1 = b.sub(a);
+    let e2 = c.sub(a);
+    let h = d.cross(e2);
+    let det = e1.dot(h);
+    let f = 1.0 / det;
+    let s = o.sub(a);
+    let u = f * s.dot(h);
+    if !((MINUS_RIM <= u) & (u <= ONE_PLUS_RIM)) {
+        return RayHit::Miss;
+    }
+    let q = s.cross(e1);
+    let v = f * d.dot(q);
+    if (v < MINUS_RIM) | (u + v > ONE_PLUS_RIM) {
+        return RayHit::Miss;
+    }
+    let t = f * e2.dot(q);
+    if t <= 0.0 {
+        return RayHit::Miss;
+    }
+    if parallel(det, e1, e2) {
+        return RayHit::Miss;
+    }
+    if (u <= RIM) | (v <= RIM) | (u + v >= ONE_MINUS_RIM) {
+        return RayHit::Degenerate;
+    }
+    RayHit::Hit
+}

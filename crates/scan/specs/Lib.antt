@@ -1,0 +1,3 @@
+-- The definitions of crate `scan`, and their laws.
+pub mod Scan
+pub mod ScanLaws
