@@ -7,7 +7,7 @@ use mathlib.Core.Logic.{⊎-elim}
 use mathlib.Core.Bool.{true, cond}
 use mathlib.Core.List.{List, [], _∷_, _++_}
 use lib.Dec.{eqb}
-use lib.ListN.{length, getD, take, drop, length-take, length-drop, length-append, take-append-drop}
+use lib.ListN.{length, take, drop, length-take, length-drop, length-append, take-append-drop}
 use borrow.Author.Tests.{le-leb, lt-leb}
 use Rattle.keys.specs.Sorting.{count, All}
 use Rattle.keys.specs.SortingTheorems.{le-or-lt, all-sortedBy, sortedBy-sum, length-sortedBy}

@@ -13,7 +13,7 @@ use lib.ListN.{length, getD, drop, length-append, List·getD-append}
 use lib.Seq.{drop-drop, drop-at, getD-drop}
 use borrow.Author.Tests.{eq-eqb, ne-eqb}
 use Rattle.keys.specs.Sorting.{count}
-use Rattle.keys.specs.SortingTheorems.{le-or-lt, eq-or-ne, all-at, count-cons}
+use Rattle.keys.specs.SortingTheorems.{le-or-lt, eq-or-ne, all-at}
 use Rattle.math.specs.declared.BoundingBox.{BoundingBox}
 use Rattle.math.specs.Vectors.{at}
 use Rattle.mesh.specs.Accepted.{Accepted, length-triangles}

@@ -6,12 +6,12 @@ use mathlib.Core.Path.{_≡_, refl, sym, ap, ap₂, _∙_}
 use mathlib.Core.Bool.{Bool, true, false, cond, _||_}
 use mathlib.Core.List.{List, [], _∷_, _++_}
 use lib.Dec.{T, eqb}
-use lib.Ieee.{Float, nan, inf, fin, binary64, fits, isNan, ofBits, lt, eq, ne}
+use lib.Ieee.{Float, nan, inf, fin, binary64, fits, ofBits, lt, eq, ne}
 use lib.Ieee.Fits.{cond-fits, inf-fits, mul-fits}
 use lib.ListN.{getD, take, drop, take-append-drop}
 use Rattle.float.specs.Arithmetic.{zero, _⊖_}
 use Rattle.float.specs.Rules as Rules
-use Rattle.float.specs.Order.{Number, finite-number}
+use Rattle.float.specs.Order.{Number, finite-number, min-top, max-bottom}
 use Rattle.keys.specs.Sorting.{sorted}
 use Rattle.keys.specs.SortingTheorems.{all-of}
 use Rattle.keys.specs.Permutations.{all-split}
@@ -150,20 +150,6 @@ unfolding widestAxis splitAxis
 centers-axis m items = rw (centers-wider m items 0 1, centers-wider m items (wider m items 0 1) 2) (sym (splitAxis-any-order m items))
 
 -- ---- the box
-
-min-top : (x : Float) → Number x → Rules.min (inf false) x ≡ x
-unfolding Rules.min lt eq ne isNan
-min-top nan p = absurd p
-min-top (inf false) p = refl
-min-top (inf true) p = refl
-min-top (fin s n e) p = refl
-
-max-bottom : (x : Float) → Number x → Rules.max (inf true) x ≡ x
-unfolding Rules.max lt eq ne isNan
-max-bottom nan p = absurd p
-max-bottom (inf false) p = refl
-max-bottom (inf true) p = refl
-max-bottom (fin s n e) p = refl
 
 join-empty : (b : BoundingBox) → NumberBox b → join empty b ≡ b
 unfolding join empty Vectors.min Vectors.max

@@ -8,7 +8,7 @@ ghost use Rattle.keys.specs.Sorting.{sorted};
 ghost use Rattle.lent.specs.Over.{over};
 ghost use Rattle.mesh.specs.Faces.{faces};
 ghost use Rattle.mesh.specs.Questions.{endsFit};
-ghost use Rattle.edges.specs.Edges.{edgeKey, keysFrom, edgeKeys};
+ghost use Rattle.edges.specs.Edges.{edgeKey, keysFrom, edgeKeys, closed};
 ghost use Rattle.edges.specs.Below.{Below};
 ghost use Rattle.edges.specs.Pairs.{startsWith, inPairs, closedKeys};
 
@@ -97,4 +97,16 @@ pub fn is_closed(faces: usize, keys: &[u64]) -> bool
     ensures { λ r. ⌜ r ≡ closedKeys faces (now (keys .entry)) ⌝ }
 {
     faces > 0 && in_pairs(keys)
+}
+
+// Writes the keys of all edges in ascending order, and says whether the mesh is closed.
+pub fn keys_closed(corners: &[u32], ends: &[u32], work: &mut [u64]) -> bool
+    requires { ⌜ endsFit 0 (length (now corners)) (now ends) ≡ true ⌝ }
+    requires { ⌜ Below 65536 (now corners) ⌝ }
+    requires { ⌜ length (now corners) ≤ length (now work) ⌝ }
+    ensures { λ r. ⌜ (r ≡ closed (faces (now (corners .entry)) (now (ends .entry)))) × (now (work .exit) ≡ over (sorted (edgeKeys (faces (now (corners .entry)) (now (ends .entry))))) (now (work .entry))) ⌝ }
+{
+    let n = corners.len();
+    edge_keys(corners, ends, work);
+    is_closed(ends.len(), &work[..n])
 }

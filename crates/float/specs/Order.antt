@@ -15,7 +15,7 @@ use native.Mathlib.Nat.{zero-mul}
 use lib.Dec.{T, eqb, eqb→eq, T-not, not-T}
 use lib.Ieee.{Float, nan, inf, fin, Format, up, neg, add, sub, mul, lt, le, eq, ne, fits, isNan}
 use lib.Ieee.Fits.{up-pos, and-l, and-r}
-use lib.Ieee.Bits.{is-false}
+use lib.Ieee.Bits.{is-true, is-false}
 use lib.Ieee.Scale.{finite}
 use Rattle.float.specs.Rules.{zero64, min, max}
 use Rattle.float.specs.Tests.{same, eq→eqb}
@@ -249,6 +249,10 @@ mul-anti-neg f x y c p q h =
     let above : T (lt zero64 (neg c)) = le-lt-trans zero64 (neg zero64) (neg c) (unfold neg le in tt) (neg-anti-lt c zero64 q) in
     rw (Product.mul-neg f x c, Product.mul-neg f y c, Compare.neg-le (mul f y c) (mul f x c)) at (mul-mono-pos f x y (neg c) (neg-finite c p) above h)
 
+-- times a negated float, a product is negated
+pub mul-neg : (f : Format) (x y : Float) → mul f x (neg y) ≡ neg (mul f x y)
+mul-neg f x y = Product.mul-neg f x y
+
 -- a product of factors not below zero grows with the two factors
 pub mul-mono : (f : Format) (x x' y y' : Float) → T (le zero64 x) → T (le x x') → T (le zero64 y) → T (le y y') → Number (mul f x y) → Number (mul f x' y') → T (le (mul f x y) (mul f x' y'))
 mul-mono f x x' y y' z h w k p q = Product.mul-mono f x x' y y' z h w k p q
@@ -368,6 +372,27 @@ min-number a b p q = le-number-left (min a b) a (min-le-left a b p q)
 -- the maximum of numbers is a number
 pub max-number : (a b : Float) → Number a → Number b → Number (max a b)
 max-number a b p q = le-number-right a (max a b) (le-max-left a b p q)
+
+-- a number is equal to itself
+pub itself : (a : Float) → Number a → ne a a ≡ false
+unfolding ne
+itself a p = rw (is-true (eq a a) (le-antisym a a (le-refl a p) (le-refl a p)))
+
+-- the lower of ∞ and a number is the number
+pub min-top : (a : Float) → Number a → min (inf false) a ≡ a
+unfolding min lt ne eq isNan
+min-top nan p = absurd p
+min-top (inf true) p = refl
+min-top (inf false) p = refl
+min-top (fin s m e) p = refl
+
+-- the higher of -∞ and a number is the number
+pub max-bottom : (a : Float) → Number a → max (inf true) a ≡ a
+unfolding max lt ne eq isNan
+max-bottom nan p = absurd p
+max-bottom (inf true) p = refl
+max-bottom (inf false) p = refl
+max-bottom (fin s m e) p = refl
 
 -- the minimum grows with the two floats
 pub min-mono : (a a' b b' : Float) → T (le a a') → T (le b b') → T (le (min a b) (min a' b'))

@@ -4,6 +4,7 @@ pub mod significand;
 pub mod sqrt;
 
 ghost use mathlib.Core.Path.{_≡_};
+ghost use Rattle.float.specs.Order.{Number};
 ghost use Rattle.float.specs.Rules as Rules;
 ghost use Rattle.float.specs.TotalOrder as TotalOrder;
 
@@ -25,6 +26,22 @@ pub fn max(a: f64, b: f64) -> f64
         return b;
     }
     if a != a { b } else { a }
+}
+
+// `min` of a left side that is no NaN: one comparison.
+pub fn lower(a: f64, b: f64) -> f64
+    requires { ⌜ Number a ⌝ }
+    ensures { λ r. ⌜ r ≡ Rules.min a b ⌝ }
+{
+    if b < a { b } else { a }
+}
+
+// `max` of a left side that is no NaN: one comparison.
+pub fn higher(a: f64, b: f64) -> f64
+    requires { ⌜ Number a ⌝ }
+    ensures { λ r. ⌜ r ≡ Rules.max a b ⌝ }
+{
+    if a < b { b } else { a }
 }
 
 // `x` with its sign cleared. A NaN stays a NaN.

@@ -20,7 +20,7 @@ use Rattle.mesh.specs.Faces.{faces, facesFrom}
 use Rattle.mesh.specs.Triangles.{fanFrom, fan, fans, triangles}
 use Rattle.mesh.specs.declared.Counts.{Counts}
 use Rattle.mesh.specs.declared.Asked.the-variants as Answers
-use Rattle.mesh.specs.Questions.{wholeVertices, endsFit, facesFit, askLengths, allBelow, askFace, askFaces, askVertices, askParts, askMesh, Lengths, counts, answered, meshAsked}
+use Rattle.mesh.specs.Questions.{wholeVertices, endsFit, facesFit, askLengths, allBelow, askFace, askFaces, askFinite, askParts, askMesh, Lengths, counts, answered, meshAsked}
 use Rattle.mesh.specs.Walks.{both, endsFit-le}
 
 -- each face has three corners or more, the first beginning at place `start`
@@ -96,12 +96,12 @@ below-of vertices number start corners (end ∷ rest) fit e i from to =
         let here = below-at vertices (take (end - start) (drop start corners)) (i - start) face (simp (length-take, length-drop) (omega arith)) in
         rw (getD-take (end - start) (drop start corners) (i - start) 0 (omega arith), getD-drop start corners (i - start) 0, place) at here
 
--- question 5: each vertex is finite
-pub finite-of : (number : ℕ) (vertices : List Vec3) (v : ℕ) (d : Vec3) → askVertices number vertices ≡ Passed → v < length vertices → Vectors.isFinite (getD vertices v d) ≡ true
-unfolding askVertices
-finite-of number [] v d e h = absurd (omega arith)
-finite-of number (vertex ∷ rest) zero d e h = ask-passed _ _ (then-passed _ _ e .0)
-finite-of number (vertex ∷ rest) (suc v) d e h = finite-of (number + 1) rest v d (then-passed (ask (Vectors.isFinite vertex) (NotFinite number)) (askVertices (number + 1) rest) e .1) (omega arith)
+-- vectors that are asked and pass are finite
+pub finite-of : (refusal : ℕ → Refusal) (number : ℕ) (vectors : List Vec3) (v : ℕ) (d : Vec3) → askFinite refusal number vectors ≡ Passed → v < length vectors → Vectors.isFinite (getD vectors v d) ≡ true
+unfolding askFinite
+finite-of refusal number [] v d e h = absurd (omega arith)
+finite-of refusal number (vector ∷ rest) zero d e h = ask-passed _ _ (then-passed _ _ e .0)
+finite-of refusal number (vector ∷ rest) (suc v) d e h = finite-of refusal (number + 1) rest v d (then-passed (ask (Vectors.isFinite vector) (refusal number)) (askFinite refusal (number + 1) rest) e .1) (omega arith)
 
 -- questions 1 to 5
 pub accepted : (coords : List Float) (corners ends : List ℕ) → askMesh coords corners ends ≡ Passed → Accepted coords corners ends
@@ -116,7 +116,7 @@ accepted coords corners ends e =
       limit = lengths .1;
       wide = wide-of (length coords / 3) 0 0 corners ends (lengths .0 .fit) (rest .0);
       below = λ i h. below-of (length coords / 3) 0 0 corners ends (lengths .0 .fit) (rest .0) i (omega arith) h;
-      finite = λ v h. rw (Vectors.getD-points coords v origin h) at (finite-of 0 (Vectors.points coords) v origin (rest .1) (rw (Vectors.length-points coords) h));
+      finite = λ v h. rw (Vectors.getD-points coords v origin h) at (finite-of NotFinite 0 (Vectors.points coords) v origin (rest .1) (rw (Vectors.length-points coords) h));
     }
 
 -- an answer with counts: the questions passed, and these are the counts

@@ -15,7 +15,7 @@ use Rattle.math.specs.Vectors.{at, points, points-next, norm, isFinite}
 use Rattle.math.specs.Boxes.{empty, include, expanded, size, center}
 use Rattle.geom.specs.Tolerance.{relTol, tolOf}
 use Rattle.mesh.specs.declared.Triangle.{Triangle}
-use Rattle.mesh.specs.declared.boxes.Prepared.{Prepared}
+use Rattle.mesh.specs.declared.boxes.Bounds.{Bounds}
 
 -- vertex v of a coordinate list
 unfoldable pub vertex : List Float → ℕ → Vec3
@@ -47,7 +47,7 @@ unfoldable pub grown : BoundingBox → BoundingBox
 grown b = expanded b (relTol ⊗ norm (size b))
 
 -- what is computed of a mesh once for a list of points
-unfoldable pub prepare : List Float → Prepared
+unfoldable pub prepare : List Float → Bounds
 prepare coords = let b = meshBox coords in record { grown = grown b; eps = surfaceEps b }
 
 -- the corners of a triangle are vertices

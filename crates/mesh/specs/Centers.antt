@@ -4,17 +4,17 @@ use native.Mathlib.Omega.{arith}
 use mathlib.Core.Path.{_≡_, refl}
 use mathlib.Core.Bool.{true, false, _&&_}
 use mathlib.Core.List.{List}
-use lib.Ieee.{Float, inf, nan, fin, lt, eq, ne, isNan}
+use lib.Ieee.{Float, inf, nan, le}
 use lib.Ieee.Bits.{is-true}
 use lib.ListN.{getD}
 use Rattle.float.specs.Arithmetic.{_⊕_, _⊗_, half}
-use Rattle.float.specs.Order.{Number, finite-number, le-refl, le-antisym}
+use Rattle.float.specs.Order.{Number, finite-number, le-trans, min-le-left, le-max-left, min-number, max-number, min-top, max-bottom}
 use Rattle.float.specs.Rules as Rules
 use Rattle.float.specs.Rules.{min, max}
 use Rattle.math.specs.declared.Vec3.{Vec3}
 use Rattle.math.specs.Vectors as Vectors
 use Rattle.math.specs.Vectors.{component}
-use Rattle.math.specs.Boxes.{box, empty, include, center}
+use Rattle.math.specs.Boxes.{box, empty, isEmpty, include, center}
 use Rattle.mesh.specs.declared.Triangle.{Triangle}
 use Rattle.mesh.specs.Boxes.{vertex, triangleBox, triangleCenter, Finite}
 use Rattle.mesh.specs.Walks.{both}
@@ -26,27 +26,6 @@ lowest a b c = min (min (min (inf false) a) b) c
 -- the highest of three numbers, as the box of three points finds it
 abbrev pub highest : Float → Float → Float → Float
 highest a b c = max (max (max (inf true) a) b) c
-
--- a number is equal to itself
-pub itself : (a : Float) → Number a → ne a a ≡ false
-unfolding ne
-itself a p = rw (is-true (eq a a) (le-antisym a a (le-refl a p) (le-refl a p)))
-
--- the lower of ∞ and a number is the number
-pub min-top : (a : Float) → Number a → min (inf false) a ≡ a
-unfolding min lt ne eq isNan
-min-top nan p = absurd p
-min-top (inf true) p = refl
-min-top (inf false) p = refl
-min-top (fin s m e) p = refl
-
--- the higher of -∞ and a number is the number
-pub max-bottom : (a : Float) → Number a → max (inf true) a ≡ a
-unfolding max lt ne eq isNan
-max-bottom nan p = absurd p
-max-bottom (inf true) p = refl
-max-bottom (inf false) p = refl
-max-bottom (fin s m e) p = refl
 
 -- a triangle's box, axis by axis
 pub box-by-axes : (coords : List Float) (t : Triangle)
@@ -80,8 +59,27 @@ numbers v e =
     (finite-number (v .x) (rw (first .0) tt), finite-number (v .y) (rw (first .1) tt), finite-number (v .z) (rw (front .1) tt))
 
 -- nor are those of a triangle's finite corners
-pub corner-numbers : (coords : List Float) (t : Triangle) → Finite coords t → Numbers (vertex coords (t .a)) × Numbers (vertex coords (t .b))
-corner-numbers coords t f = (numbers (vertex coords (t .a)) (f .a), numbers (vertex coords (t .b)) (f .b))
+pub corner-numbers : (coords : List Float) (t : Triangle) → Finite coords t → Numbers (vertex coords (t .a)) × Numbers (vertex coords (t .b)) × Numbers (vertex coords (t .c))
+corner-numbers coords t f = (numbers (vertex coords (t .a)) (f .a), numbers (vertex coords (t .b)) (f .b), numbers (vertex coords (t .c)) (f .c))
+
+-- of three numbers the lowest is at most the highest
+lowest-highest : (a b c : Float) → Number a → Number b → Number c → le (lowest a b c) (highest a b c) ≡ true
+lowest-highest a b c p q r =
+    let low = min-number a b p q in
+    let high = max-number a b p q in
+    rw (min-top a p, max-bottom a p)
+    (is-true _
+    (le-trans (min (min a b) c) (min a b) (max (max a b) c) (min-le-left (min a b) c low r)
+    (le-trans (min a b) a (max (max a b) c) (min-le-left a b p q)
+    (le-trans a (max a b) (max (max a b) c) (le-max-left a b p q) (le-max-left (max a b) c high r)))))
+
+-- so a triangle with finite corners has a box that is not empty
+pub box-some : (coords : List Float) (t : Triangle) → Finite coords t → isEmpty (triangleBox coords t) ≡ false
+unfolding isEmpty
+box-some coords t f =
+    let n = corner-numbers coords t f in
+    rw
+    (box-by-axes coords t, lowest-highest _ _ _ (n .0 .0) (n .1 .0) (n .2 .0), lowest-highest _ _ _ (n .0 .1) (n .1 .1) (n .2 .1), lowest-highest _ _ _ (n .0 .2) (n .1 .2) (n .2 .2))
 
 -- nor is a coordinate of a finite vertex
 pub number-on : (coords : List Float) (v axis : ℕ) → axis < 3 → Vectors.isFinite (vertex coords v) ≡ true → Number (getD coords (3 * v + axis) nan)

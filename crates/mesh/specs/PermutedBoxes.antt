@@ -16,6 +16,7 @@ use Rattle.math.specs.Boxes.{empty, include, contains}
 use Rattle.math.specs.Alike.{AlikeBox, alikeBox-refl, alikeBox-trans, include-alike, norm-alike, size-alike, expanded-alike, contains-alike}
 use Rattle.geom.specs.Tolerance.{relTol, leastMagnitude, tolOf}
 use Rattle.lent.specs.Reordered.{Reordered, none, keep, exchange, twice}
+use Rattle.lent.specs.ReorderedLaws.{Every, every-reordered}
 use Rattle.mesh.specs.Boxes.{includeAll, meshBox, surfaceEps, grown}
 
 -- a number of the format f64
@@ -36,8 +37,7 @@ pub record F64Box (b : BoundingBox) : Type 0 where
 
 -- all vectors of a list are such
 abbrev pub AllF64 : List Vec3 → Type 0
-AllF64 [] = Prim.Unit {0}
-AllF64 (p ∷ rest) = F64Vec p × AllF64 rest
+AllF64 vectors = Every F64Vec vectors
 
 chosen-fits : (t : Bool) (a b : Float) → T (fits binary64 a) → T (fits binary64 b) → T (fits binary64 (cond t b a))
 chosen-fits true a b p q = q
@@ -106,19 +106,13 @@ unfolding includeAll
 includeAll-alike [] h = h
 includeAll-alike (p ∷ rest) h = includeAll-alike rest (include-alike p h)
 
-allF64-reordered : {l m : List Vec3} → Reordered l m → AllF64 l → AllF64 m
-allF64-reordered none h = h
-allF64-reordered (keep x r) h = (h .0, allF64-reordered r (h .1))
-allF64-reordered (exchange x y l) h = (h .1 .0, (h .0, h .1 .1))
-allF64-reordered (twice r s) h = allF64-reordered s (allF64-reordered r h)
-
 -- the box of points in another order is alike
 pub includeAll-reordered : {l m : List Vec3} → Reordered l m → (b : BoundingBox) → F64Box b → AllF64 l → AlikeBox (includeAll b l) (includeAll b m)
 unfolding includeAll
 includeAll-reordered none b f h = alikeBox-refl b
 includeAll-reordered (keep x r) b f h = includeAll-reordered r (include b x) (include-f64 f (h .0)) (h .1)
 includeAll-reordered (exchange x y l) b f h = includeAll-alike l (include-exchange b x y f (h .0) (h .1 .0))
-includeAll-reordered (twice r s) b f h = alikeBox-trans (includeAll-reordered r b f h) (includeAll-reordered s b f (allF64-reordered r h))
+includeAll-reordered (twice r s) b f h = alikeBox-trans (includeAll-reordered r b f h) (includeAll-reordered s b f (every-reordered F64Vec r h))
 
 infinity-f64 : (s : Bool) → F64 (inf s)
 unfolding fits isNan

@@ -8,6 +8,7 @@ use lib.Ieee.{Float}
 use lib.ListN.{length}
 use Rattle.math.specs.declared.Vec3.{Vec3}
 use Rattle.math.specs.Vectors as Vectors
+use Rattle.refusal.specs.declared.Refusal.{Refusal}
 use Rattle.refusal.specs.declared.Verdict.{Verdict}
 use Rattle.refusal.specs.declared.Verdict.the-variants.{Passed, Refused}
 use Rattle.refusal.specs.declared.Refusal.the-variants.{Coordinates, Faces, ShortFace, CornerOut, NotFinite}
@@ -48,10 +49,14 @@ unfoldable pub askFaces : ℕ → ℕ → List (List ℕ) → Verdict
 askFaces vertices number [] = Passed
 askFaces vertices number (face ∷ rest) = then (askFace vertices number face) (askFaces vertices (number + 1) rest)
 
+-- is each vector finite? If not, the refusal of the first that is not, the vectors counted from `number`
+unfoldable pub askFinite : (ℕ → Refusal) → ℕ → List Vec3 → Verdict
+askFinite refusal number [] = Passed
+askFinite refusal number (v ∷ rest) = then (ask (Vectors.isFinite v) (refusal number)) (askFinite refusal (number + 1) rest)
+
 -- question 5: is each coordinate finite? The vertices are counted from `number`
-unfoldable pub askVertices : ℕ → List Vec3 → Verdict
-askVertices number [] = Passed
-askVertices number (vertex ∷ rest) = then (ask (Vectors.isFinite vertex) (NotFinite number)) (askVertices (number + 1) rest)
+abbrev pub askVertices : ℕ → List Vec3 → Verdict
+askVertices number vertices = askFinite NotFinite number vertices
 
 -- questions 3 to 5
 unfoldable pub askParts : List Float → List ℕ → List ℕ → Verdict

@@ -1,5 +1,5 @@
 -- What reordering the faces and renumbering the vertices does to the triangles: the list is reordered, and each triangle keeps its
--- three points and its own box to the bit.
+-- three points to the bit, of which its own box is computed.
 use Prim.Native.Nat.{ℕ, suc, _/_, _<_}
 use native.Mathlib.Omega.{arith}
 use mathlib.Core.Path.{_≡_, refl, ap, ap₂}
@@ -12,7 +12,7 @@ use Rattle.lent.specs.ReorderedLaws.{reordered-behind, reordered-exchange}
 use Rattle.mesh.specs.declared.Triangle.{Triangle}
 use Rattle.mesh.specs.Faces.{faces}
 use Rattle.mesh.specs.Triangles.{triangle, fanFrom, fan, fans, triangles}
-use Rattle.mesh.specs.Boxes.{vertex, triangleBox, Corners}
+use Rattle.mesh.specs.Boxes.{vertex, Corners}
 use Rattle.mesh.specs.Accepted.{Accepted, length-triangles}
 use Rattle.mesh.specs.Corners.{triangle-corners}
 
@@ -45,11 +45,6 @@ unfolding fans
 fans-renumbered s [] = refl
 fans-renumbered s (face ∷ rest) = rw (fan-renumbered s face, fans-renumbered s rest, map-append)
 
--- a renumbered triangle whose points have moved with their numbers has the same own box
-pub triangleBox-renumbered : (coords coords' : List Float) (s : ℕ → ℕ) (t : Triangle) → vertex coords' (s (t .a)) ≡ vertex coords (t .a) → vertex coords' (s (t .b)) ≡ vertex coords (t .b) → vertex coords' (s (t .c)) ≡ vertex coords (t .c) → triangleBox coords' (renumbered s t) ≡ triangleBox coords t
-unfolding triangleBox renumbered
-triangleBox-renumbered coords coords' s t a b c = rw (a, b, c)
-
 -- vertex s v of the second coordinate list is vertex v of the first
 abbrev pub Moved : (ℕ → ℕ) → List Float → List Float → Type 0
 Moved s coords coords' = (v : ℕ) → v < length coords / 3 → vertex coords' (s v) ≡ vertex coords v
@@ -63,24 +58,15 @@ map-same : {A B : Type 0} (f g : A → B) (d : A) (l : List A) → ((k : ℕ) �
 map-same f g d [] h = refl
 map-same f g d (x ∷ rest) h = ap₂ _∷_ (h 0 (omega arith)) (map-same f g d rest (λ k i. h (suc k) (omega arith)))
 
--- a mesh whose vertices are renumbered, coordinates and corners alike: each of its triangles has the points, and so the own box, that it had
+-- a mesh whose vertices are renumbered, coordinates and corners alike: each of its triangles has the points that it had
 module _ (s : ℕ → ℕ) (coords coords' : List Float) (corners ends : List ℕ) (mesh : Accepted coords corners ends) (moved : Moved s coords coords') where
-  -- whatever is computed of the three points is the same
-  each-renumbered : {A : Type 0} (f : List Float → Triangle → A)
-      → ((t : Triangle) → vertex coords' (s (t .a)) ≡ vertex coords (t .a) → vertex coords' (s (t .b)) ≡ vertex coords (t .b) → vertex coords' (s (t .c)) ≡ vertex coords (t .c) → f coords' (renumbered s t) ≡ f coords t)
-      → map (f coords') (fans (map (map s) (faces corners ends))) ≡ map (f coords) (triangles corners ends)
-  unfolding triangles
-  each-renumbered f same =
+  pub points-renumbered : map (cornerPoints coords') (fans (map (map s) (faces corners ends))) ≡ map (cornerPoints coords) (triangles corners ends)
+  unfolding triangles cornerPoints renumbered
+  points-renumbered =
       let ts = triangles corners ends in
       let d = triangle 0 0 0 in
       let long = length-triangles coords corners ends mesh in
       let at : (k : ℕ) → k < length ts → Corners coords (getD ts k d) = λ k h. triangle-corners coords corners ends mesh k d (omega arith) in
       rw (fans-renumbered s (faces corners ends), map-map)
-      (map-same (λ t. f coords' (renumbered s t)) (f coords) d ts
-      (λ k h. same (getD ts k d) (moved _ (omega (arith, at k h .a))) (moved _ (omega (arith, at k h .b))) (moved _ (omega (arith, at k h .c)))))
-
-  pub points-renumbered : map (cornerPoints coords') (fans (map (map s) (faces corners ends))) ≡ map (cornerPoints coords) (triangles corners ends)
-  points-renumbered = each-renumbered cornerPoints (λ t a b c. unfold cornerPoints renumbered in rw (a, b, c))
-
-  pub boxes-renumbered : map (triangleBox coords') (fans (map (map s) (faces corners ends))) ≡ map (triangleBox coords) (triangles corners ends)
-  boxes-renumbered = each-renumbered triangleBox (triangleBox-renumbered coords coords' s)
+      (map-same (λ t. cornerPoints coords' (renumbered s t)) (cornerPoints coords) d ts
+      (λ k h. rw (moved (getD ts k d .a) (omega (arith, at k h .a)), moved (getD ts k d .b) (omega (arith, at k h .b)), moved (getD ts k d .c) (omega (arith, at k h .c)))))

@@ -4,7 +4,6 @@ ghost use mathlib.Core.Path.{_≡_};
 ghost use Prim.Native.Nat.{_+_, _-_, _*_, _<_};
 ghost use lib.ListN.{length};
 ghost use Rattle.float.specs.Order.{Number};
-ghost use Rattle.float.specs.Rules as Rules;
 ghost use Rattle.math.specs.Vectors.{component};
 ghost use Rattle.mesh.specs.Accepted.{Accepted};
 ghost use Rattle.mesh.specs.Boxes as Boxes;
@@ -16,7 +15,7 @@ use math::BoundingBox;
 use math::Vec3;
 
 // What is computed of a mesh once for a list of points.
-pub struct Prepared {
+pub struct Bounds {
     // The mesh's box, larger by the tolerance: a point outside it is outside the mesh.
     pub grown: BoundingBox,
     // How near the surface a point counts as on it.
@@ -50,28 +49,12 @@ pub fn triangle_center(coords: &[f64], t: Triangle) -> Vec3
     triangle_box(coords, t).center()
 }
 
-// `float::min` of a left side that is no NaN.
-fn lower(a: f64, b: f64) -> f64
-    requires { ⌜ Number a ⌝ }
-    ensures { λ r. ⌜ r ≡ Rules.min a b ⌝ }
-{
-    if b < a { b } else { a }
-}
-
-// `float::max` of a left side that is no NaN.
-fn higher(a: f64, b: f64) -> f64
-    requires { ⌜ Number a ⌝ }
-    ensures { λ r. ⌜ r ≡ Rules.max a b ⌝ }
-{
-    if a < b { b } else { a }
-}
-
 // The lowest of three, the first two of which are no NaN.
 fn lowest(a: f64, b: f64, c: f64) -> f64
     requires { ⌜ Number a × Number b ⌝ }
     ensures { λ r. ⌜ r ≡ Centers.lowest a b c ⌝ }
 {
-    lower(lower(a, b), c)
+    float::lower(float::lower(a, b), c)
 }
 
 // The highest of three, the first two of which are no NaN.
@@ -79,7 +62,7 @@ fn highest(a: f64, b: f64, c: f64) -> f64
     requires { ⌜ Number a × Number b ⌝ }
     ensures { λ r. ⌜ r ≡ Centers.highest a b c ⌝ }
 {
-    higher(higher(a, b), c)
+    float::higher(float::higher(a, b), c)
 }
 
 // A triangle's own box where its corners are finite: without the empty box it takes fewer steps.
@@ -155,11 +138,11 @@ fn grown(b: BoundingBox) -> BoundingBox
 }
 
 // The same from the mesh's coordinates.
-pub fn prepare(coords: &[f64]) -> Prepared
+pub fn prepare(coords: &[f64]) -> Bounds
     ensures { λ r. ⌜ r ≡ Boxes.prepare (now (coords .entry)) ⌝ }
 {
     let b = mesh_box(coords);
-    Prepared {
+    Bounds {
         grown: grown(b),
         eps: surface_eps(b),
     }

@@ -6,6 +6,7 @@ ghost use lib.ListN.{length};
 ghost use Rattle.math.specs.Vectors.{points};
 ghost use Rattle.mesh.specs.Faces.{faces};
 ghost use Rattle.mesh.specs.Questions as Questions;
+ghost use Rattle.mesh.specs.Walks as Walks;
 use crate::Asked;
 use crate::Counts;
 use math::Vec3;
@@ -109,19 +110,30 @@ fn ask_faces(vertices: usize, corners: &[u32], ends: &[u32]) -> Verdict
     Verdict::Passed
 }
 
+// The number of the first point of a list that is not finite, or how many points there are if all are.
+pub fn first_not_finite(list: &[f64]) -> usize
+    ensures { λ r. ⌜ r ≡ Walks.firstNotFinite (points (now (list .entry))) ⌝ }
+{
+    let n = list.len() / 3;
+    let mut i = 0;
+    while i < n {
+        let p = Vec3::at(list, 3 * i);
+        if !p.is_finite() {
+            return i;
+        }
+        i += 1;
+    }
+    i
+}
+
 // Question 5: is each coordinate finite?
 pub fn ask_vertices(coords: &[f64]) -> Verdict
     requires { ⌜ length (now coords) ≤ 196608 ⌝ }
     ensures { λ r. ⌜ r ≡ Questions.askVertices 0 (points (now (coords .entry))) ⌝ }
 {
-    let n = coords.len() / 3;
-    let mut v = 0;
-    while v < n {
-        let p = Vec3::at(coords, 3 * v);
-        if !p.is_finite() {
-            return Verdict::Refused(Refusal::NotFinite(v as u32));
-        }
-        v += 1;
+    let v = first_not_finite(coords);
+    if v < coords.len() / 3 {
+        return Verdict::Refused(Refusal::NotFinite(v as u32));
     }
     Verdict::Passed
 }

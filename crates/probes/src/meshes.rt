@@ -186,9 +186,7 @@ fn keys_closed(corners: &[u32], ends: &[u32], work: &mut [u64]) -> u64
     requires { ⌜ length (now corners) ≤ length (now work) ⌝ }
     ensures { λ r. ⌜ (r ≡ Meshes.closed (now (corners .entry)) (now (ends .entry))) × (now (work .exit) ≡ over (Meshes.keys (now (corners .entry)) (now (ends .entry))) (now (work .entry))) ⌝ }
 {
-    let n = corners.len();
-    edges::edge_keys(corners, ends, work);
-    if edges::is_closed(ends.len(), &work[..n]) {
+    if edges::keys_closed(corners, ends, work) {
         1
     } else {
         0

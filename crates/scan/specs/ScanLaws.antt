@@ -1,8 +1,8 @@
 -- Laws of the scan's lists: what a test and a vote say of a list does not depend on its order, and can be found part by part.
-use Prim.Native.Nat.{ℕ, zero, suc, _+_, _*_, _%_, _<_}
+use Prim.Native.Nat.{ℕ, suc, _+_, _%_}
 use native.Mathlib.Omega.{arith}
 use mathlib.Core.Path.{_≡_, refl, sym, _∙_}
-use mathlib.Core.Bool.{Bool, true, false, not, cond, _||_}
+use mathlib.Core.Bool.{Bool, true, false, cond, _||_}
 use mathlib.Core.List.{List, [], _∷_, _++_}
 use lib.Dec.{eqb, ltb}
 use lib.ListN.{length}

@@ -20,7 +20,7 @@ use Rattle.refusal.specs.Verdicts.{written}
 use Rattle.mesh.specs.declared.Triangle.{Triangle}
 use Rattle.mesh.specs.Triangles.{triangle}
 use Rattle.mesh.specs.Faces as Faces
-use Rattle.mesh.specs.Questions.{wholeVertices, endsFit, facesFit, askLengths, allBelow, askFace, askFaces, askVertices, askParts, askMesh}
+use Rattle.mesh.specs.Questions.{wholeVertices, endsFit, facesFit, askLengths, allBelow, askFace, askFaces, askFinite, askVertices, askParts, askMesh}
 use Rattle.mesh.specs.Walks.{both}
 use Rattle.weld.specs.Welding.{find, add, addAll, degenerate, kept, facesAmong, numbers, cornersOf, endsFrom, vertices, faces, coords, corners, ends}
 use Rattle.weld.specs.declared.Welded.the-variants.{Sizes}
@@ -108,7 +108,7 @@ corners-below vs (a ∷ b ∷ c ∷ rest) m h =
 
 -- question 5: finite points make finite vertices
 finite-snoc : (m : ℕ) (vs : List Vec3) (p : Vec3) → askVertices m vs ≡ Passed → isFinite p ≡ true → askVertices m (vs ++ (p ∷ [])) ≡ Passed
-unfolding askVertices
+unfolding askFinite
 finite-snoc m [] p h g = rw g
 finite-snoc m (v ∷ rest) p h g =
     let parts = finite-head m v rest h in
@@ -131,7 +131,7 @@ finite-addAll m k vs (p ∷ rest) h g =
 -- A welded mesh passes questions 1 to 5.
 pub welded-accepted : (triangles : List Float) → wholeTriangles triangles ≡ true → askCorners triangles ≡ Passed
     → askMesh (coords triangles) (corners triangles) (ends triangles) ≡ Passed
-unfolding askMesh askLengths askParts Faces.faces askCorners askVertices vertices faces coords corners ends
+unfolding askMesh askLengths askParts Faces.faces askCorners askFinite vertices faces coords corners ends
 welded-accepted triangles whole finite =
     let ps = points triangles in
     let vs = addAll [] ps in

@@ -17,7 +17,7 @@ use Rattle.refusal.specs.declared.Refusal.{Refusal}
 use Rattle.refusal.specs.declared.Verdict.{Verdict}
 use Rattle.refusal.specs.declared.Verdict.the-variants.{Passed, Refused}
 use Rattle.refusal.specs.Verdicts.{ask-passed, then-passed}
-use Rattle.mesh.specs.Questions.{askVertices}
+use Rattle.mesh.specs.Questions.{askFinite, askVertices}
 use Rattle.mesh.specs.Walks.{both}
 use Rattle.weld.specs.declared.Welded.the-variants as Answers
 use Rattle.weld.specs.Welding.{same, vertices, faces}
@@ -61,14 +61,14 @@ answer-refused (Refused other) triangles refusal e = cc
 
 -- the first of vertices that are all finite is, and so are the others
 pub finite-head : (m : ℕ) (p : Vec3) (rest : List Vec3) → askVertices m (p ∷ rest) ≡ Passed → (isFinite p ≡ true) × (askVertices (m + 1) rest ≡ Passed)
-unfolding askVertices
+unfolding askFinite
 finite-head m p rest h =
     let parts = then-passed _ _ h in
     (ask-passed _ _ (parts .0), parts .1)
 
 -- no vertices pass
 nothing-asked : (m : ℕ) → askVertices m [] ≡ Passed
-unfolding askVertices
+unfolding askFinite
 nothing-asked m = refl
 
 -- those from vertex k on are finite

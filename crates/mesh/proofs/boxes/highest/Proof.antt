@@ -1,7 +1,6 @@
 -- `highest` meets its contract: the infinity that the definition starts from gives way to the first number.
 use borrow.Author.Needs.{needs}
-use Rattle.float.specs.Order.{max-number}
-use Rattle.mesh.specs.Centers.{max-bottom}
+use Rattle.float.specs.Order.{max-number, max-bottom}
 use Rattle.mesh.proofs.boxes.highest.Statement.{statement}
 use Rattle.mesh.proofs.boxes.highest.Tie as tie
 

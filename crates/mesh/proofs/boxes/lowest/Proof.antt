@@ -1,7 +1,6 @@
 -- `lowest` meets its contract: the infinity that the definition starts from gives way to the first number.
 use borrow.Author.Needs.{needs}
-use Rattle.float.specs.Order.{min-number}
-use Rattle.mesh.specs.Centers.{min-top}
+use Rattle.float.specs.Order.{min-number, min-top}
 use Rattle.mesh.proofs.boxes.lowest.Statement.{statement}
 use Rattle.mesh.proofs.boxes.lowest.Tie as tie
 

@@ -1,55 +1,30 @@
--- `keys_closed` meets its contract: `edge_keys` writes the keys at the front, one a corner, and `is_closed` tells by them whether the mesh is closed (`closed-of`).
-use native.Mathlib.Omega.{arith}
-use mathlib.Core.Path.{sym, _∙_}
-use mathlib.Core.Bool.{true, false}
-use lib.Seq.{length-take-le}
-use Rattle.probes.specs.Meshes.{keys}
-use Rattle.probes.proofs.Keys.{closed-of}
+-- `keys_closed` meets its contract: the function of `edges` promises both parts.
+use mathlib.Core.Path.{sym}
 use borrow.Author.Needs.{needs}
+use Rattle.probes.specs.Meshes.{keys, closed}
 use Rattle.probes.proofs.meshes.keys_closed.Statement.{statement}
 use Rattle.probes.proofs.meshes.keys_closed.Tie as tie
 
-edge-keys-requires : tie.Need-edge-keys-requires
-edge-keys-requires c κs = search needs
-
-slice-reshare-prefix-is-closed : tie.Need-slice-reshare-prefix-is-closed
-slice-reshare-prefix-is-closed c = search needs
-
-slice-aggregate-is-closed : tie.Need-slice-aggregate-is-closed
-slice-aggregate-is-closed c = sym (length-take-le _ (c .before .before .before .edge-keys .last .1 .1 .0) (omega arith))
-
-is-closed-requires : tie.Need-is-closed-requires
-is-closed-requires c κs = search needs
+keys-closed-requires : tie.Need-keys-closed-requires
+keys-closed-requires c κs = search needs
 
 same-length : tie.Need-same-length
 same-length c = search needs
 
 returns : tie.Need-returns
-unfolding keys
+unfolding keys closed
 returns c =
-    let start = c .before .before .before .before .before .before .before .before .before .before in
-    let written = c .before .before .before .before .before .edge-keys .ensures in
-    (closed-of (start .args .corners .now) (start .args .ends .now) (start .pre .0) _ _ true written (sym (c .if1 .taken) ∙ c .before .is-closed .ensures), written)
+    let both = c .before .before .before .keys-closed .ensures in
+    (rw (sym (both .0), c .if1 .taken), both .1)
 
 same-length-2 : tie.Need-same-length-2
 same-length-2 c = search needs
 
 returns-2 : tie.Need-returns-2
-unfolding keys
+unfolding keys closed
 returns-2 c =
-    let start = c .before .before .before .before .before .before .before .before .before .before in
-    let written = c .before .before .before .before .before .edge-keys .ensures in
-    (closed-of (start .args .corners .now) (start .args .ends .now) (start .pre .0) _ _ false written (sym (c .if1 .left) ∙ c .before .is-closed .ensures), written)
+    let both = c .before .before .before .keys-closed .ensures in
+    (rw (sym (both .0), c .if1 .left), both .1)
 
 pub keys-closed-spec : {M : Type 1} → statement M
-keys-closed-spec =
-    tie.close
-    (tie.spec
-    edge-keys-requires
-    slice-reshare-prefix-is-closed
-    slice-aggregate-is-closed
-    is-closed-requires
-    same-length
-    returns
-    same-length-2
-    returns-2)
+keys-closed-spec = tie.close (tie.spec keys-closed-requires same-length returns same-length-2 returns-2)

@@ -1,8 +1,8 @@
 -- `higher` meets its contract: of a number on the left the definition asks one comparison.
 use Rattle.float.specs.Rules.{max}
-use Rattle.mesh.specs.Centers.{itself}
-use Rattle.mesh.proofs.boxes.higher.Statement.{statement}
-use Rattle.mesh.proofs.boxes.higher.Tie as tie
+use Rattle.float.specs.Order.{itself}
+use Rattle.float.proofs.higher.Statement.{statement}
+use Rattle.float.proofs.higher.Tie as tie
 
 returns : tie.Need-returns
 unfolding max

@@ -1,8 +1,8 @@
 -- `lower` meets its contract: of a number on the left the definition asks one comparison.
 use Rattle.float.specs.Rules.{min}
-use Rattle.mesh.specs.Centers.{itself}
-use Rattle.mesh.proofs.boxes.lower.Statement.{statement}
-use Rattle.mesh.proofs.boxes.lower.Tie as tie
+use Rattle.float.specs.Order.{itself}
+use Rattle.float.proofs.lower.Statement.{statement}
+use Rattle.float.proofs.lower.Tie as tie
 
 returns : tie.Need-returns
 unfolding min
