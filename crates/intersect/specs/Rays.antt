@@ -1,6 +1,6 @@
 -- csx's `ray_hits_box` and `ray_triangle` (polyhedron.rs; Möller and Trumbore): each step as csx writes it, with csx's thresholds and
 -- comparisons, also where a value is NaN. Definitions only.
-use mathlib.Core.Bool.{Bool, false, true, not, cond, _&&_, _||_}
+use mathlib.Core.Bool.{Bool, false, not, cond, _&&_, _||_}
 use lib.Ieee.{Float, binary64, ofBits, inf, eq, lt, le}
 use Rattle.float.specs.Arithmetic.{_⊕_, _⊖_, _⊗_, _⊘_, zero, one}
 use Rattle.float.specs.Rules.{min, max, abs}

@@ -1,18 +1,16 @@
 -- A quicker test of a ray against a box: the sign of the direction says which plane of a slab is the nearer one, and the farther side is negated, so that only maxima
 -- occur. For a box that is not empty it is the test `rayHitsBox`: of two planes met at the same place the two tests may take different ones, and then only the sign of
 -- a zero can differ, which no comparison sees.
-use mathlib.Core.Path.{_≡_, refl, sym, ap, _∙_}
+use mathlib.Core.Path.{_≡_, refl}
 use mathlib.Core.Logic.{inl, inr}
 use mathlib.Core.Bool.{Bool, true, false, not, cond, _||_}
-use Prim.Native.Nat as Nat
-use Prim.Native.Nat.{ℕ, suc, _+_, _*_, _^_}
-use lib.Dec.{T, T-not, ltb, eqb}
-use lib.Ieee.{Float, nan, inf, fin, binary64, prec, emax, low, isNan, up, down, unlike, odd, units, round, neg, mul, lt, le, eq, ne}
+use lib.Dec.{T, T-not}
+use lib.Ieee.{Float, nan, inf, fin, binary64, low, neg, lt, le, eq, ne}
 use lib.Ieee.Bits.{is-true}
-use lib.Ieee.Fits.{round-is, mul-fits}
+use lib.Ieee.Fits.{mul-fits}
 use Rattle.float.specs.Arithmetic.{_⊖_, _⊗_, zero}
 use Rattle.float.specs.Rules.{min, max}
-use Rattle.float.specs.Order.{Number, Finite, Alike, le-refl, le-antisym, le-number-left, le-number-right, neg-neg, neg-anti-lt, alike-refl, alike-sym, eq-alike, min-alike, max-alike, le-alike}
+use Rattle.float.specs.Order.{Number, Finite, Alike, le-refl, le-antisym, le-number-left, le-number-right, neg-neg, neg-number, mul-neg, neg-anti-lt, alike-refl, alike-sym, eq-alike, min-top, min-alike, max-alike, le-alike}
 use Rattle.float.specs.Tests.{same}
 use Rattle.math.specs.declared.Vec3.{Vec3}
 use Rattle.math.specs.declared.BoundingBox.{BoundingBox}
@@ -36,41 +34,11 @@ slabHits o inv b =
     (max (max (max zero (entry (o .x) (inv .x) (b .min .x) (b .max .x))) (entry (o .y) (inv .y) (b .min .y) (b .max .y))) (entry (o .z) (inv .z) (b .min .z) (b .max .z)))
     (neg (max (max (minusExit (o .x) (inv .x) (b .min .x) (b .max .x)) (minusExit (o .y) (inv .y) (b .min .y) (b .max .y))) (minusExit (o .z) (inv .z) (b .min .z) (b .max .z))))
 
--- ---- a product with a negated factor is the product negated
-
-signed : (b s : Bool) (d q k l : ℕ) → cond b (odd d (not s) q k l) (inf (not s)) ≡ neg (cond b (odd d s q k l) (inf s))
-unfolding odd neg
-signed false s d q k l = refl
-signed true s d Nat.zero k l = refl
-signed true s d (suc q) k l = refl
-
-units-not : (s : Bool) (q k : ℕ) → units binary64 (not s) q k ≡ neg (units binary64 s q k)
-unfolding units
-units-not s q k = signed (ltb (q * 2 ^ k) (2 ^ (low binary64 + suc (emax binary64)))) s (suc (prec binary64)) q k (low binary64)
-
-round-not : (s : Bool) (a c : ℕ) → round binary64 (not s) a c ≡ neg (round binary64 s a c)
-round-not s a c = round-is binary64 (not s) a c ∙ units-not s _ _ ∙ ap neg (sym (round-is binary64 s a c))
-
-unlike-not : (s t : Bool) → unlike s (not t) ≡ not (unlike s t)
-unlike-not false false = refl
-unlike-not false true = refl
-unlike-not true false = refl
-unlike-not true true = refl
-
-with-inf : (b s t : Bool) → cond b nan (inf (unlike s (not t))) ≡ neg (cond b nan (inf (unlike s t)))
-unfolding neg
-with-inf true s t = refl
-with-inf false s t = ap inf (unlike-not s t)
-
-mul-neg : (x y : Float) → x ⊗ neg y ≡ neg (x ⊗ y)
-unfolding mul neg
-mul-neg nan y = refl
-mul-neg (inf s) nan = refl
-mul-neg (inf s) (inf t) = ap inf (unlike-not s t)
-mul-neg (inf s) (fin t n d) = with-inf (eqb n 0) s t
-mul-neg (fin s m e) nan = refl
-mul-neg (fin s m e) (inf t) = with-inf (eqb m 0) s t
-mul-neg (fin s m e) (fin t n d) = rw (unlike-not s t) (round-not (unlike s t) (m * up e * (n * up d)) (down e * down d))
+-- what the quicker test takes for granted: a finite origin, factors that are finite and not zero, and a box that is not empty
+pub record Met (o inv : Vec3) (b : BoundingBox) : Type 0 where
+  pub origin : Vectors.isFinite o ≡ true
+  pub direction : finiteNonZero inv ≡ true
+  pub some : isEmpty b ≡ false
 
 -- ---- a maximum negated
 
@@ -93,15 +61,8 @@ neg-max : (x y : Float) → neg (max x y) ≡ min (neg x) (neg y)
 unfolding max min
 neg-max x y = rw (neg-lt x y, neg-ne x) (neg-cond (lt (neg y) (neg x) || ne (neg x) (neg x)) y x)
 
-min-inf : (x : Float) → Number x → min (inf false) x ≡ x
-unfolding min
-min-inf nan p = absurd (unfold isNan in p)
-min-inf (inf false) p = unfold lt ne eq in refl
-min-inf (inf true) p = unfold lt ne eq in refl
-min-inf (fin s m e) p = unfold lt ne eq in refl
-
 first-exit : (x y z : Float) {a b c : Float} → Number a → Alike (neg x) a → Alike (neg y) b → Alike (neg z) c → Alike (neg (max (max x y) z)) (min (min (min (inf false) a) b) c)
-first-exit x y z {a} p h k l = rw (neg-max (max x y) z, neg-max x y, min-inf a p) (min-alike (min-alike h k) l)
+first-exit x y z {a} p h k l = rw (neg-max (max x y) z, neg-max x y, min-top a p) (min-alike (min-alike h k) l)
 
 -- ---- the planes that the two tests take
 
@@ -117,7 +78,7 @@ turned o inv lo hi true f h =
 planes : (o inv lo hi : Float) → Finite o → Factor inv → T (le lo hi) → Alike (entry o inv lo hi) (near o inv lo hi) × Alike (neg (minusExit o inv lo hi)) (far o inv lo hi)
 unfolding entry minusExit near far
 planes o inv lo hi p f h =
-    rw (mul-neg (cond (lt zero inv) hi lo ⊖ o) inv, neg-neg (meets o inv (cond (lt zero inv) hi lo)))
+    rw (mul-neg binary64 (cond (lt zero inv) hi lo ⊖ o) inv, neg-neg (meets o inv (cond (lt zero inv) hi lo)))
     (go (lt zero inv) (λ s. s) (λ s. elim (sides inv f) [ inl k ↦ absurd (T-not (lt zero inv) s k) | inr k ↦ k ]))
   where
     go : (t : Bool) → (T t → T (lt zero inv)) → (T (not t) → T (lt inv zero))
@@ -128,17 +89,49 @@ planes o inv lo hi p f h =
         (alike-refl (meets o inv lo), alike-refl (meets o inv hi))
     go false above below = turned o inv lo hi (le (meets o inv lo) (meets o inv hi)) (λ t. t) (meets-down o inv lo hi p (f .0) (below tt) h)
 
--- the two tests are the same for a box that is not empty
-pub slab-same : (o inv : Vec3) (b : BoundingBox) → Vectors.isFinite o ≡ true → finiteNonZero inv ≡ true → isEmpty b ≡ false → slabHits o inv b ≡ rayHitsBox o inv b
-unfolding slabHits rayHitsBox
-slab-same o inv b s t e =
-    let p = finite-vec o s in
-    let f = factors inv t in
-    let n = ordered b e in
-    let x = planes (o .x) (inv .x) (b .min .x) (b .max .x) (p .0) (f .0) (n .0) in
-    let y = planes (o .y) (inv .y) (b .min .y) (b .max .y) (p .1) (f .1) (n .1) in
-    let z = planes (o .z) (inv .z) (b .min .z) (b .max .z) (p .2) (f .2) (n .2) in
-    let first = between (o .x) (inv .x) (b .min .x) (b .min .x) (b .max .x) (p .0) (f .0) (le-refl (b .min .x) (le-number-left (b .min .x) (b .max .x) (n .0))) (n .0) in
-    le-alike
-    (max-alike (max-alike (max-alike (alike-refl zero) (x .0)) (y .0)) (z .0))
-    (first-exit _ _ _ (le-number-right _ _ (first .1)) (x .1) (y .1) (z .1))
+-- where a plane is met is a number
+meets-number : (o inv e : Float) → Finite o → Factor inv → Number e → Number (meets o inv e)
+meets-number o inv e p f n =
+    elim (sides inv f) [
+      | inl s ↦ le-number-left (meets o inv e) (meets o inv e) (meets-up o inv e e p (f .0) s (le-refl e n))
+      | inr s ↦ le-number-left (meets o inv e) (meets o inv e) (meets-down o inv e e p (f .0) s (le-refl e n))
+    ]
+
+chosen-number : (t : Bool) (a b : Float) → Number a → Number b → Number (cond t a b)
+chosen-number true a b p q = p
+chosen-number false a b p q = q
+
+-- so are the entry and the exit of a slab
+slab-numbers : (o inv lo hi : Float) → Finite o → Factor inv → T (le lo hi) → Number (entry o inv lo hi) × Number (minusExit o inv lo hi)
+unfolding entry minusExit
+slab-numbers o inv lo hi p f h =
+    let low = le-number-left lo hi h in
+    let high = le-number-right lo hi h in
+    let far = cond (lt zero inv) hi lo in
+    (meets-number o inv (cond (lt zero inv) lo hi) p f (chosen-number (lt zero inv) lo hi low high), rw (mul-neg binary64 (far ⊖ o) inv) (neg-number (meets o inv far) (meets-number o inv far p f (chosen-number (lt zero inv) hi lo high low))))
+
+module _ {o inv : Vec3} {b : BoundingBox} (met : Met o inv b) where
+  -- on each axis the entry and the exit are numbers
+  pub all-numbers : (Number (entry (o .x) (inv .x) (b .min .x) (b .max .x)) × Number (minusExit (o .x) (inv .x) (b .min .x) (b .max .x)))
+      × (Number (entry (o .y) (inv .y) (b .min .y) (b .max .y)) × Number (minusExit (o .y) (inv .y) (b .min .y) (b .max .y)))
+      × (Number (entry (o .z) (inv .z) (b .min .z) (b .max .z)) × Number (minusExit (o .z) (inv .z) (b .min .z) (b .max .z)))
+  all-numbers =
+      let p = finite-vec o (met .origin) in
+      let f = factors inv (met .direction) in
+      let n = ordered b (met .some) in
+      (slab-numbers (o .x) (inv .x) (b .min .x) (b .max .x) (p .0) (f .0) (n .0), slab-numbers (o .y) (inv .y) (b .min .y) (b .max .y) (p .1) (f .1) (n .1), slab-numbers (o .z) (inv .z) (b .min .z) (b .max .z) (p .2) (f .2) (n .2))
+
+  -- the two tests are the same
+  pub slab-same : slabHits o inv b ≡ rayHitsBox o inv b
+  unfolding slabHits rayHitsBox
+  slab-same =
+      let p = finite-vec o (met .origin) in
+      let f = factors inv (met .direction) in
+      let n = ordered b (met .some) in
+      let x = planes (o .x) (inv .x) (b .min .x) (b .max .x) (p .0) (f .0) (n .0) in
+      let y = planes (o .y) (inv .y) (b .min .y) (b .max .y) (p .1) (f .1) (n .1) in
+      let z = planes (o .z) (inv .z) (b .min .z) (b .max .z) (p .2) (f .2) (n .2) in
+      let first = between (o .x) (inv .x) (b .min .x) (b .min .x) (b .max .x) (p .0) (f .0) (le-refl (b .min .x) (le-number-left (b .min .x) (b .max .x) (n .0))) (n .0) in
+      le-alike
+      (max-alike (max-alike (max-alike (alike-refl zero) (x .0)) (y .0)) (z .0))
+      (first-exit _ _ _ (le-number-right _ _ (first .1)) (x .1) (y .1) (z .1))

@@ -2,6 +2,8 @@
 // specs/Rays.antt.
 ghost use mathlib.Core.Path.{_≡_};
 ghost use Rattle.intersect.specs.Rays as Rays;
+ghost use Rattle.intersect.specs.Slabs as Slabs;
+use float::higher;
 use math::BoundingBox;
 use math::Vec3;
 
@@ -22,36 +24,36 @@ pub enum RayHit {
     Degenerate,
 }
 
-// Where the ray meets the nearer plane of a slab on one axis.
-fn near(o: f64, inv: f64, lo: f64, hi: f64) -> f64
-    ensures { λ r. ⌜ r ≡ Rays.near o inv lo hi ⌝ }
+// Where the ray enters a slab: the planes are at `lo` and `hi`, all on one axis.
+fn entry(o: f64, inv: f64, lo: f64, hi: f64) -> f64
+    ensures { λ r. ⌜ r ≡ Slabs.entry o inv lo hi ⌝ }
 {
-    let a = (lo - o) * inv;
-    let c = (hi - o) * inv;
-    if a <= c { a } else { c }
+    let plane = if 0.0 < inv { lo } else { hi };
+    (plane - o) * inv
 }
 
-// Where the ray meets the farther plane of a slab on one axis.
-fn far(o: f64, inv: f64, lo: f64, hi: f64) -> f64
-    ensures { λ r. ⌜ r ≡ Rays.far o inv lo hi ⌝ }
+// Where the ray leaves a slab, negated.
+fn minus_exit(o: f64, inv: f64, lo: f64, hi: f64) -> f64
+    ensures { λ r. ⌜ r ≡ Slabs.minusExit o inv lo hi ⌝ }
 {
-    let a = (lo - o) * inv;
-    let c = (hi - o) * inv;
-    if a <= c { c } else { a }
+    let plane = if 0.0 < inv { hi } else { lo };
+    (plane - o) * -inv
 }
 
-// Whether the ray from `o`, with `inv` one over its direction, meets the box.
+// Whether the ray from `o`, with `inv` one over its direction, meets the box. csx finds the nearer plane of each
+// slab by comparing; here the sign of the direction says which it is, and with the exits negated only maxima occur.
 pub fn ray_hits_box(o: Vec3, inv: Vec3, b: BoundingBox) -> bool
+    requires { ⌜ Slabs.Met o inv b ⌝ }
     ensures { λ r. ⌜ r ≡ Rays.rayHitsBox o inv b ⌝ }
 {
-    let inf = f64::from_bits(0x7FF0_0000_0000_0000);
-    let t0 = float::max(0.0, near(o.x, inv.x, b.min.x, b.max.x));
-    let t1 = float::max(t0, near(o.y, inv.y, b.min.y, b.max.y));
-    let t2 = float::max(t1, near(o.z, inv.z, b.min.z, b.max.z));
-    let s0 = float::min(inf, far(o.x, inv.x, b.min.x, b.max.x));
-    let s1 = float::min(s0, far(o.y, inv.y, b.min.y, b.max.y));
-    let s2 = float::min(s1, far(o.z, inv.z, b.min.z, b.max.z));
-    t2 <= s2
+    let x = entry(o.x, inv.x, b.min.x, b.max.x);
+    let y = entry(o.y, inv.y, b.min.y, b.max.y);
+    let z = entry(o.z, inv.z, b.min.z, b.max.z);
+    let last_entry = higher(higher(higher(0.0, x), y), z);
+    let u = minus_exit(o.x, inv.x, b.min.x, b.max.x);
+    let v = minus_exit(o.y, inv.y, b.min.y, b.max.y);
+    let w = minus_exit(o.z, inv.z, b.min.z, b.max.z);
+    last_entry <= -higher(higher(u, v), w)
 }
 
 // Whether the triangle with edges e1 and e2 has no area, or the ray is parallel to it.
