@@ -1,0 +1,21 @@
+-- `prepare` meets its contract: the calls promise its parts.
+use borrow.Author.Needs.{needs}
+use Rattle.walks.specs.Walks.{prepared}
+use Rattle.walks.proofs.points.prepare.Statement.{statement}
+use Rattle.walks.proofs.points.prepare.Tie as tie
+
+sides-requires : tie.Need-sides-requires
+sides-requires c κs = search needs
+
+prepare-requires : tie.Need-prepare-requires
+prepare-requires c κs = search needs
+
+inverses-requires : tie.Need-inverses-requires
+inverses-requires c κs = search needs
+
+returns : tie.Need-returns
+unfolding prepared
+returns c = cc
+
+pub prepare-spec : {M : Type 1} → statement M
+prepare-spec = tie.close (tie.spec sides-requires prepare-requires inverses-requires returns)

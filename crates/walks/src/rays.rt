@@ -1,0 +1,164 @@
+// The ray walk: the vote of a direction. The definitions are in crate scan, specs/Scan.antt, and in specs/Walks.antt.
+ghost use mathlib.Core.Path.{_≡_};
+ghost use Prim.Native.Nat.{_+_, _≤_, _<_};
+ghost use mathlib.Core.List.{map};
+ghost use lib.ListN.{length};
+ghost use Rattle.mesh.specs.Boxes.{Corners};
+ghost use Rattle.mesh.specs.Items as Items;
+ghost use Rattle.mesh.specs.Mesh as Mesh;
+ghost use Rattle.tree.specs.Tree as Tree;
+ghost use Rattle.scan.specs.Scan as Scan;
+ghost use Rattle.scan.specs.ScanLaws as ScanLaws;
+ghost use Rattle.walks.specs.Walks as Walks;
+use crate::nodes::node_at;
+use crate::nodes::push_children;
+use crate::nodes::start_height;
+use intersect::rays::RayHit;
+use intersect::rays::ray_hits_box;
+use intersect::rays::ray_triangle;
+use math::Vec3;
+use mesh::Triangle;
+use mesh::boxes::finite_box;
+use mesh::boxes::vertex;
+use scan::votes::Vote;
+
+// csx's directions. They lie along no axis and no diagonal, so that a ray seldom passes an edge of a usual part.
+const RAY_DIRS: [[f64; 3]; 3] = [
+    [0.5772156649015329, 0.6180339887498948, 0.5334026692200182],
+    [-0.7345132201647214, 0.2718281828459045, 0.6214986632135587],
+    [0.1980622641951621, -0.881373587019543, 0.4294494086704378],
+];
+
+// A ray: where it begins, its direction, and one over that, axis by axis.
+pub struct Ray {
+    pub origin: Vec3,
+    pub direction: Vec3,
+    pub inverse: Vec3,
+}
+
+// Direction `k`.
+pub fn direction(k: usize) -> Vec3
+    requires { ⌜ k < 3 ⌝ }
+    ensures { λ r. ⌜ r ≡ Walks.direction k ⌝ }
+{
+    let d = RAY_DIRS[k];
+    Vec3::new(d[0], d[1], d[2])
+}
+
+// One over a direction, axis by axis.
+fn inverse(d: Vec3) -> Vec3
+    ensures { λ r. ⌜ r ≡ Scan.inverse d ⌝ }
+{
+    Vec3::new(1.0 / d.x, 1.0 / d.y, 1.0 / d.z)
+}
+
+// One over each direction.
+pub fn inverses() -> [Vec3; 3]
+    ensures { λ r. ⌜ r ≡ map Scan.inverse Scan.directions ⌝ }
+{
+    [
+        inverse(direction(0)),
+        inverse(direction(1)),
+        inverse(direction(2)),
+    ]
+}
+
+// What the ray does at a triangle.
+fn crossing(coords: &[f64], ray: Ray, t: Triangle) -> RayHit
+    requires { ⌜ Corners (now coords) t ⌝ }
+    ensures { λ r. ⌜ r ≡ Scan.crossing (now (coords .entry)) (ray .direction) (ray .origin) t ⌝ }
+{
+    let a = vertex(coords, t.a);
+    let b = vertex(coords, t.b);
+    let c = vertex(coords, t.c);
+    ray_triangle(ray.origin, ray.direction, a, b, c)
+}
+
+// What the ray finds at triangle `t`: a miss unless its own box passes.
+fn found(coords: &[f64], corners: &[u32], ends: &[u32], sides: usize, ray: Ray, t: u32) -> RayHit
+    requires { ⌜ Items.Item (Mesh.mesh (now coords) (now corners) (now ends)) sides t × Walks.Cast ray ⌝ }
+    ensures { λ r. ⌜ r ≡ Scan.found (Mesh.mesh (now (coords .entry)) (now (corners .entry)) (now (ends .entry))) (ray .direction) (ray .origin) t ⌝ }
+{
+    let triangle = mesh::triangles::triangle(corners, ends, sides, t as usize);
+    let own = finite_box(coords, triangle);
+    if ray_hits_box(ray.origin, ray.inverse, own) {
+        crossing(coords, ray, triangle)
+    } else {
+        RayHit::Miss
+    }
+}
+
+// The vote so far, with what the ray finds at `places` item places from `i` on.
+fn leaf_vote(
+    coords: &[f64],
+    corners: &[u32],
+    ends: &[u32],
+    sides: usize,
+    items: &[u32],
+    i: usize,
+    places: usize,
+    ray: Ray,
+    given: Vote,
+) -> Vote
+    requires { ⌜ Items.Items (Mesh.mesh (now coords) (now corners) (now ends)) sides (now items) × (i + places ≤ length (now items)) × Walks.Cast ray ⌝ }
+    ensures { λ r. ⌜ r ≡ ScanLaws.castOver (Scan.found (Mesh.mesh (now (coords .entry)) (now (corners .entry)) (now (ends .entry))) (ray .direction) (ray .origin)) given (Walks.itemsFrom (now (items .entry)) i places) ⌝ }
+{
+    let end = i + places;
+    let mut vote = given;
+    let mut k = i;
+    while k < end {
+        vote = vote.with(found(coords, corners, ends, sides, ray, items[k]));
+        if let Vote::None = vote {
+            return Vote::None;
+        }
+        k += 1;
+    }
+    vote
+}
+
+// The vote of a direction: what the ray walk comes to, up to the first degenerate triangle.
+pub fn ray_walk(
+    coords: &[f64],
+    corners: &[u32],
+    ends: &[u32],
+    sides: usize,
+    boxes: &[f64],
+    nodes: &[u32],
+    items: &[u32],
+    ray: Ray,
+) -> Vote
+    requires { ⌜ Walks.Ready (Mesh.mesh (now coords) (now corners) (now ends)) sides (Tree.tree (now boxes) (now nodes) (now items)) × Walks.Cast ray ⌝ }
+    ensures { λ r. ⌜ r ≡ Walks.walkVote (Mesh.mesh (now (coords .entry)) (now (corners .entry)) (now (ends .entry))) (Tree.tree (now (boxes .entry)) (now (nodes .entry)) (now (items .entry))) (ray .origin) (ray .direction) ⌝ }
+{
+    let mut stack = [0; 32];
+    let mut top = start_height(nodes);
+    let mut vote = Vote::Even;
+    while top > 0 {
+        let k = top - 1;
+        let n: usize = stack[k];
+        top = k;
+        if ray_hits_box(ray.origin, ray.inverse, tree::check::node_box(boxes, n)) {
+            let node = node_at(nodes, n);
+            if node.count == 0 {
+                push_children(&mut stack, k, n + 1, node.start);
+                top = k + 2;
+            } else {
+                vote = leaf_vote(
+                    coords,
+                    corners,
+                    ends,
+                    sides,
+                    items,
+                    node.start,
+                    node.count,
+                    ray,
+                    vote,
+                );
+                if let Vote::None = vote {
+                    return Vote::None;
+                }
+            }
+        }
+    }
+    vote
+}
