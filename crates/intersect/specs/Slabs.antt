@@ -27,12 +27,20 @@ entry o inv lo hi = (cond (lt zero inv) lo hi ⊖ o) ⊗ inv
 unfoldable pub minusExit : Float → Float → Float → Float → Float
 minusExit o inv lo hi = (cond (lt zero inv) hi lo ⊖ o) ⊗ neg inv
 
--- whether the ray from o meets the box: the last entry, from 0 on, is at most the first exit
+-- whether the last entry, from 0 on, is at most the first exit: x, y and z are the entries, u, v and w the exits, negated
+unfoldable pub overlap : Float → Float → Float → Float → Float → Float → Bool
+overlap x y z u v w = le (max (max (max zero x) y) z) (neg (max (max u v) w))
+
+-- whether the ray from o meets the box
 unfoldable pub slabHits : Vec3 → Vec3 → BoundingBox → Bool
 slabHits o inv b =
-    le
-    (max (max (max zero (entry (o .x) (inv .x) (b .min .x) (b .max .x))) (entry (o .y) (inv .y) (b .min .y) (b .max .y))) (entry (o .z) (inv .z) (b .min .z) (b .max .z)))
-    (neg (max (max (minusExit (o .x) (inv .x) (b .min .x) (b .max .x)) (minusExit (o .y) (inv .y) (b .min .y) (b .max .y))) (minusExit (o .z) (inv .z) (b .min .z) (b .max .z))))
+    overlap
+    (entry (o .x) (inv .x) (b .min .x) (b .max .x))
+    (entry (o .y) (inv .y) (b .min .y) (b .max .y))
+    (entry (o .z) (inv .z) (b .min .z) (b .max .z))
+    (minusExit (o .x) (inv .x) (b .min .x) (b .max .x))
+    (minusExit (o .y) (inv .y) (b .min .y) (b .max .y))
+    (minusExit (o .z) (inv .z) (b .min .z) (b .max .z))
 
 -- what the quicker test takes for granted: a finite origin, factors that are finite and not zero, and a box that is not empty
 pub record Met (o inv : Vec3) (b : BoundingBox) : Type 0 where
@@ -123,7 +131,7 @@ module _ {o inv : Vec3} {b : BoundingBox} (met : Met o inv b) where
 
   -- the two tests are the same
   pub slab-same : slabHits o inv b ≡ rayHitsBox o inv b
-  unfolding slabHits rayHitsBox
+  unfolding slabHits overlap rayHitsBox
   slab-same =
       let p = finite-vec o (met .origin) in
       let f = factors inv (met .direction) in

@@ -1,6 +1,7 @@
 // How a ray meets boxes and triangles: csx's `ray_hits_box` and `ray_triangle`. The definitions are in
 // specs/Rays.antt.
 ghost use mathlib.Core.Path.{_≡_};
+ghost use Rattle.float.specs.Order.{Number};
 ghost use Rattle.intersect.specs.Rays as Rays;
 ghost use Rattle.intersect.specs.Slabs as Slabs;
 use float::higher;
@@ -40,20 +41,30 @@ fn minus_exit(o: f64, inv: f64, lo: f64, hi: f64) -> f64
     (plane - o) * -inv
 }
 
+// Whether the last of the entries x, y and z into slabs, from 0 on, is at most the first exit; the exits u, v and w
+// are negated.
+pub fn overlap(x: f64, y: f64, z: f64, u: f64, v: f64, w: f64) -> bool
+    requires { ⌜ Number x × Number y × Number u × Number v ⌝ }
+    ensures { λ r. ⌜ r ≡ Slabs.overlap x y z u v w ⌝ }
+{
+    let last_entry = higher(higher(higher(0.0, x), y), z);
+    last_entry <= -higher(higher(u, v), w)
+}
+
 // Whether the ray from `o`, with `inv` one over its direction, meets the box. csx finds the nearer plane of each
 // slab by comparing; here the sign of the direction says which it is, and with the exits negated only maxima occur.
 pub fn ray_hits_box(o: Vec3, inv: Vec3, b: BoundingBox) -> bool
     requires { ⌜ Slabs.Met o inv b ⌝ }
     ensures { λ r. ⌜ r ≡ Rays.rayHitsBox o inv b ⌝ }
 {
-    let x = entry(o.x, inv.x, b.min.x, b.max.x);
-    let y = entry(o.y, inv.y, b.min.y, b.max.y);
-    let z = entry(o.z, inv.z, b.min.z, b.max.z);
-    let last_entry = higher(higher(higher(0.0, x), y), z);
-    let u = minus_exit(o.x, inv.x, b.min.x, b.max.x);
-    let v = minus_exit(o.y, inv.y, b.min.y, b.max.y);
-    let w = minus_exit(o.z, inv.z, b.min.z, b.max.z);
-    last_entry <= -higher(higher(u, v), w)
+    overlap(
+        entry(o.x, inv.x, b.min.x, b.max.x),
+        entry(o.y, inv.y, b.min.y, b.max.y),
+        entry(o.z, inv.z, b.min.z, b.max.z),
+        minus_exit(o.x, inv.x, b.min.x, b.max.x),
+        minus_exit(o.y, inv.y, b.min.y, b.max.y),
+        minus_exit(o.z, inv.z, b.min.z, b.max.z),
+    )
 }
 
 // Whether the triangle with edges e1 and e2 has no area, or the ray is parallel to it.

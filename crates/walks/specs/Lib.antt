@@ -5,4 +5,5 @@ pub mod WalkTheorem
 pub mod ReadyLaws
 pub mod WalkScan
 pub mod Votes
+pub mod Planes
 pub mod Stacks

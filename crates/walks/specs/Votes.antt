@@ -14,7 +14,6 @@ use Rattle.float.specs.Arithmetic.{_⊗_}
 use Rattle.float.specs.Rules as Rules
 use Rattle.float.specs.Order.{le-trans, le-max-right, mul-comm, mul-mono-pos}
 use Rattle.math.specs.declared.Vec3.{Vec3}
-use Rattle.math.specs.declared.BoundingBox.{BoundingBox}
 use Rattle.math.specs.Vectors as Vectors
 use Rattle.math.specs.Vectors.{vec}
 use Rattle.geom.specs.Tolerance.{relTol, leastMagnitude, tolOf}

@@ -7,13 +7,16 @@ ghost use Rattle.mesh.specs.Boxes.{Corners};
 ghost use Rattle.mesh.specs.Items as Items;
 ghost use Rattle.mesh.specs.Mesh as Mesh;
 ghost use Rattle.tree.specs.Tree as Tree;
+ghost use Rattle.intersect.specs.Rays as Rays;
 ghost use Rattle.scan.specs.Scan as Scan;
 ghost use Rattle.scan.specs.ScanLaws as ScanLaws;
+ghost use Rattle.walks.specs.Planes as Planes;
 ghost use Rattle.walks.specs.Walks as Walks;
 use crate::nodes::node_at;
 use crate::nodes::push_children;
 use crate::nodes::start_height;
 use intersect::rays::RayHit;
+use intersect::rays::overlap;
 use intersect::rays::ray_hits_box;
 use intersect::rays::ray_triangle;
 use math::Vec3;
@@ -61,6 +64,58 @@ pub fn inverses() -> [Vec3; 3]
         inverse(direction(1)),
         inverse(direction(2)),
     ]
+}
+
+// Where among the six floats of a node the nearer plane of each slab stands.
+struct Near {
+    x: usize,
+    y: usize,
+    z: usize,
+}
+
+// That place on one axis: of the minimum, unless the ray comes from the other side.
+fn near_place(inverse: f64, axis: usize) -> usize
+    requires { ⌜ axis < 3 ⌝ }
+    ensures { λ r. ⌜ r ≡ Planes.nearPlace inverse axis ⌝ }
+{
+    if 0.0 < inverse { axis } else { axis + 3 }
+}
+
+// Those places.
+fn near_places(inverse: Vec3) -> Near
+    ensures { λ r. ⌜ r ≡ Planes.nearPlaces inverse ⌝ }
+{
+    Near {
+        x: near_place(inverse.x, 0),
+        y: near_place(inverse.y, 1),
+        z: near_place(inverse.z, 2),
+    }
+}
+
+// Where the ray meets the plane at place `i`, on one axis.
+fn meets(boxes: &[f64], i: usize, origin: f64, inverse: f64) -> f64
+    requires { ⌜ i < length (now boxes) ⌝ }
+    ensures { λ r. ⌜ r ≡ Planes.meetsAt (now (boxes .entry)) i origin inverse ⌝ }
+{
+    (boxes[i] - origin) * inverse
+}
+
+// Whether the ray meets the box of node `n`: `ray_hits_box`, with the planes read by their places.
+fn hits_node(boxes: &[f64], n: usize, ray: Ray, near: Near) -> bool
+    requires { ⌜ Planes.Seen (now boxes) n ray near ⌝ }
+    ensures { λ r. ⌜ r ≡ Rays.rayHitsBox (ray .origin) (ray .inverse) (Tree.boxAt (now (boxes .entry)) n) ⌝ }
+{
+    let o = ray.origin;
+    let inv = ray.inverse;
+    let i = 6 * n;
+    overlap(
+        meets(boxes, i + near.x, o.x, inv.x),
+        meets(boxes, i + near.y, o.y, inv.y),
+        meets(boxes, i + near.z, o.z, inv.z),
+        meets(boxes, i + (3 - near.x), o.x, -inv.x),
+        meets(boxes, i + (5 - near.y), o.y, -inv.y),
+        meets(boxes, i + (7 - near.z), o.z, -inv.z),
+    )
 }
 
 // What the ray does at a triangle.
@@ -133,11 +188,12 @@ pub fn ray_walk(
     let mut stack = [0; 32];
     let mut top = start_height(nodes);
     let mut vote = Vote::Even;
+    let near = near_places(ray.inverse);
     while top > 0 {
         let k = top - 1;
         let n: usize = stack[k];
         top = k;
-        if ray_hits_box(ray.origin, ray.inverse, tree::check::node_box(boxes, n)) {
+        if hits_node(boxes, n, ray, near) {
             let node = node_at(nodes, n);
             if node.count == 0 {
                 push_children(&mut stack, k, n + 1, node.start);

@@ -1,0 +1,22 @@
+-- `near_places` meets its contract: the calls promise its parts.
+use borrow.Author.Needs.{needs}
+use Rattle.walks.specs.Planes.{nearPlaces}
+use Rattle.walks.proofs.rays.near_places.Statement.{statement}
+use Rattle.walks.proofs.rays.near_places.Tie as tie
+
+near-place-requires : tie.Need-near-place-requires
+near-place-requires c κs = search needs
+
+near-place-requires-2 : tie.Need-near-place-requires-2
+near-place-requires-2 c κs = search needs
+
+near-place-requires-3 : tie.Need-near-place-requires-3
+near-place-requires-3 c κs = search needs
+
+returns : tie.Need-returns
+unfolding nearPlaces
+returns c = cc
+
+pub near-places-spec : {M : Type 1} → statement M
+near-places-spec =
+    tie.close (tie.spec near-place-requires near-place-requires-2 near-place-requires-3 returns)
