@@ -215,7 +215,7 @@ impl Polyhedron {
         self.bvh.visit(
             |b| b.expanded(eps).contains(p),
             |i| {
-                let [a, b, c] = self.tri(&self.tris[i as usize]);
+                let Some([a, b, c]) = crate::port::looked_at(self.tri(&self.tris[i as usize]), |b| b.expanded(eps).contains(p)) else { return true }; // oracle: own box
                 found = (closest_on_triangle(p, a, b, c) - p).norm() <= eps;
                 !found
             },
@@ -233,7 +233,7 @@ impl Polyhedron {
         self.bvh.visit(
             |b| ray_hits_box(p, inv, b),
             |i| {
-                let [a, b, c] = self.tri(&self.tris[i as usize]);
+                let Some([a, b, c]) = crate::port::looked_at(self.tri(&self.tris[i as usize]), |b| ray_hits_box(p, inv, b)) else { return true }; // oracle: own box
                 match ray_triangle(p, d, a, b, c) {
                     RayHit::Miss => {}
                     RayHit::Hit => count += 1,
@@ -247,7 +247,7 @@ impl Polyhedron {
 
     /// Parity based inside test for closed meshes (majority vote of up to
     /// three rays, winding number fallback).
-    pub fn inside_closed(&self, p: Vec3) -> bool { // oracle: visibility
+    fn inside_closed(&self, p: Vec3) -> Option<bool> { // oracle: votes
         let mut votes = [0usize; 2];
         for d in RAY_DIRS {
             if let Some(n) = self.ray_crossings(p, Vec3(d)) {
@@ -258,24 +258,24 @@ impl Polyhedron {
             }
         }
         match votes {
-            [0, 0] => self.winding_number(p).abs() > 0.5,
-            [o, i] => i > o || (i == o && self.winding_number(p).abs() > 0.5),
+            [0, 0] => crate::port::equal_votes(|| self.winding_number(p).abs() > 0.5), // oracle: votes
+            [o, i] => if i == o { crate::port::equal_votes(|| self.winding_number(p).abs() > 0.5) } else { Some(i > o) }, // oracle: votes
         }
     }
 
     /// Inside test: points on the surface count as inside.
-    pub fn contains(&self, p: Vec3) -> bool {
+    pub fn contains(&self, p: Vec3) -> bool { self.answer(p) == Some(true) } pub fn answer(&self, p: Vec3) -> Option<bool> { // oracle: votes
         if !self
             .bbox
             .expanded(REL_TOL * self.bbox.size().norm())
             .contains(p)
         {
-            return false;
+            return Some(false); // oracle: votes
         }
         if self.on_surface(p) {
-            return true;
+            return Some(true); // oracle: votes
         }
-        self.closed && self.inside_closed(p)
+        if self.closed { self.inside_closed(p) } else { Some(false) } // oracle: votes
     }
 }
 
