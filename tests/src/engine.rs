@@ -2,6 +2,7 @@
 //! numbers are safe to call. A list is lent as a pointer and a length, so those
 //! that take one are called through `answer`, which has a slice.
 
+pub mod lists;
 pub mod meshes;
 pub mod trees;
 
@@ -73,6 +74,8 @@ of_floats! {
 /// only reads are lent as mutable ones all the same, as `answer` says.
 macro_rules! of_lists {
     ($($name:ident($($list:ident: $element:ty),*))*) => {$(
+        // as many as the C function takes
+        #[allow(clippy::too_many_arguments)]
         fn $name($($list: &mut [$element]),*) -> u64 {
             unsafe extern "C" {
                 fn $name($($list: *mut $element, _: usize),*) -> u64;

@@ -1,8 +1,10 @@
 //! The kinds of comparison. Each takes the function that it tests, so that its
 //! own tests can give it a wrong one and see it fail.
 
+mod answer;
 pub mod corrections;
 mod lent;
+pub mod lists;
 pub mod meshes;
 pub mod order;
 pub mod remainder;
@@ -11,6 +13,7 @@ pub mod root_inputs;
 pub mod rules;
 pub mod shapes;
 pub mod trees;
+mod turns;
 
 use crate::plan::Plan;
 use crate::random::specials;

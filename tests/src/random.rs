@@ -61,6 +61,13 @@ pub fn power_of_two(e: i32) -> f64 {
     }
 }
 
+/// `x` times 2^e, or the largest value of its sign where that is larger.
+pub fn product(x: f64, e: i32) -> f64 {
+    let e = e.clamp(-2000, 2000);
+    let half = e / 2;
+    (x * power_of_two(half) * power_of_two(e - half)).clamp(-f64::MAX, f64::MAX)
+}
+
 /// The value `steps` above `x` among the values of the format, or below it
 /// for a negative `steps`, but not past infinity. A NaN stays.
 pub fn moved(x: f64, steps: i64) -> f64 {
@@ -292,6 +299,15 @@ mod tests {
             assert_eq!(power_of_two(e) * 2.0, power_of_two(e + 1));
         }
         assert_eq!(power_of_two(0), 1.0);
+    }
+
+    #[test]
+    fn products_stay_finite() {
+        assert_eq!(product(3.0, -1), 1.5);
+        assert_eq!(product(1.5, 1023), 1.5 * power_of_two(1023));
+        assert_eq!(product(-3.0, 1023), f64::MIN);
+        assert_eq!(product(1.0, -1074).to_bits(), 1);
+        assert_eq!(product(power_of_two(-1074), 2097), power_of_two(926));
     }
 
     #[test]

@@ -4,7 +4,9 @@ use std::env;
 use std::process::ExitCode;
 
 use zirwennach_tests::engine;
-use zirwennach_tests::kinds::{corrections, meshes, order, remainder, root, rules, shapes, trees};
+use zirwennach_tests::kinds::{
+    corrections, lists, meshes, order, remainder, root, rules, shapes, trees,
+};
 use zirwennach_tests::plan::{DEFAULT_SEED, Plan};
 use zirwennach_tests::report::Report;
 
@@ -70,5 +72,10 @@ fn run(plan: &Plan) -> Report {
     trees::building::large(&mut report, plan, engine::trees::build);
     trees::checking::compare(&mut report, plan, engine::trees::check);
     trees::checking::large(&mut report, plan, engine::trees::check);
+    lists::cases::compare(&mut report, plan, engine::lists::contains);
+    lists::answers::compare(&mut report, plan, engine::lists::contains);
+    lists::answers::large(&mut report, plan, engine::lists::contains);
+    lists::rewritings::compare(&mut report, plan, engine::lists::contains);
+    lists::refusals::compare(&mut report, plan, engine::lists::contains);
     report
 }

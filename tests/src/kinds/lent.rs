@@ -38,6 +38,18 @@ impl Element for f64 {
     }
 }
 
+impl Element for u8 {
+    const GUARD: Self = u8::MAX;
+
+    fn from_bits(bits: u64) -> Self {
+        bits as u8
+    }
+
+    fn bits(self) -> u64 {
+        self.into()
+    }
+}
+
 impl Element for u32 {
     const GUARD: Self = u32::MAX;
 
@@ -142,6 +154,14 @@ pub struct Wrong {
     place: i64,
     got: u64,
     want: u64,
+}
+
+impl Wrong {
+    /// The place, if it is one of this list.
+    pub fn place_in(&self, list: &str) -> Option<usize> {
+        let place = usize::try_from(self.place).ok();
+        place.filter(|_| self.list == list)
+    }
 }
 
 impl fmt::Display for Wrong {

@@ -26,8 +26,8 @@ pub type Probe<T> = fn(&mut engine::meshes::Mesh, &mut [T]) -> u64;
 /// Refusal 6: the buffer is too short.
 pub(super) const ROOM: u64 = 6 * REFUSAL;
 
-/// What a line of questions 1 to 7 has to see, or a part of it.
-pub(super) const QUESTIONS: [&str; 8] = [
+/// What a line of questions 1 to 9 has to see, or a part of it.
+pub(super) const QUESTIONS: [&str; 10] = [
     "accepted",
     "refusal 1",
     "refusal 2",
@@ -36,6 +36,8 @@ pub(super) const QUESTIONS: [&str; 8] = [
     "refusal 5",
     "refusal 6",
     "refusal 7",
+    "refusal 8",
+    "refusal 9",
 ];
 
 /// A mesh, with its lists as they are lent.

@@ -14,18 +14,15 @@ mod turns;
 #[cfg(test)]
 mod wrong_engines;
 
-use std::fmt;
-
 use csx::CoordSystem;
 
 use self::expected::{Csx, refusal};
+use super::answer::{Answer, INSIDE, OUTSIDE};
 use super::lent::{Lent, cut};
-use crate::engine::{Point, REFUSAL, Shape};
+use super::turns::with_coordinate;
+use crate::engine::{Point, Shape};
 use crate::random::Random;
-use crate::report::{self, Kind, Value};
-
-const OUTSIDE: u64 = 0;
-const INSIDE: u64 = 1;
+use crate::report::{self, Kind};
 
 /// The function under test, as `engine::answer` is.
 pub type Engine = fn(&Shape, &mut [f64], Point) -> u64;
@@ -52,12 +49,6 @@ impl Case {
         }
         case
     }
-}
-
-/// The point with `x` for its coordinate on this axis.
-fn with_coordinate(mut point: Point, axis: usize, x: f64) -> Point {
-    point[axis] = x;
-    point
 }
 
 /// A shape that is asked about: how its cases are made, and how csx is asked.
@@ -181,37 +172,6 @@ impl Form {
     }
 }
 
-/// What the engine answers, in words.
-#[derive(Clone, Copy, PartialEq, Eq, PartialOrd, Ord)]
-struct Answer(u64);
-
-impl From<u64> for Answer {
-    fn from(answer: u64) -> Self {
-        Self(answer)
-    }
-}
-
-impl fmt::Display for Answer {
-    fn fmt(&self, f: &mut fmt::Formatter) -> fmt::Result {
-        match self.0 {
-            OUTSIDE => write!(f, "outside"),
-            INSIDE => write!(f, "inside"),
-            n if n % REFUSAL == 0 => write!(f, "refusal {}", n / REFUSAL),
-            n => write!(f, "{n}"),
-        }
-    }
-}
-
-impl Value for Answer {
-    fn same(self, other: Self) -> bool {
-        self == other
-    }
-
-    fn text(self) -> String {
-        self.to_string()
-    }
-}
-
 /// A line of the table.
 type Line = report::Line<Answer>;
 
@@ -295,14 +255,6 @@ mod tests {
             .iter()
             .find(|form| form.name == name)
             .expect("a shape of the table")
-    }
-
-    #[test]
-    fn answers_are_in_words() {
-        assert_eq!(Answer(0).text(), "outside");
-        assert_eq!(Answer(1).text(), "inside");
-        assert_eq!(Answer(11_000_000).text(), "refusal 11");
-        assert_eq!(Answer(9_000_001).text(), "9000001");
     }
 
     #[test]

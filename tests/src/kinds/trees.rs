@@ -2,10 +2,10 @@
 
 pub mod building;
 pub mod checking;
-mod damage;
-mod expected;
+pub(super) mod damage;
+pub(super) mod expected;
 pub mod inputs;
-mod others;
+pub(super) mod others;
 #[cfg(test)]
 mod wrong_builders;
 #[cfg(test)]
@@ -32,7 +32,7 @@ impl Tree {
     }
 
     /// The box of each node.
-    fn bounds(&self) -> impl Iterator<Item = Bounds> {
+    pub(super) fn bounds(&self) -> impl Iterator<Item = Bounds> {
         let boxes = self.boxes.as_chunks().0.as_chunks().0.iter();
         boxes.copied()
     }
@@ -46,7 +46,7 @@ impl Tree {
         }
     }
 
-    fn text(&self) -> String {
+    pub(super) fn text(&self) -> String {
         let Self {
             boxes,
             nodes,
@@ -67,14 +67,14 @@ pub fn built(mesh: &Mesh) -> Tree {
 }
 
 /// A tree whose lists are lent.
-struct LentTree {
+pub(super) struct LentTree {
     boxes: Lent<f64>,
     nodes: Lent<u32>,
     items: Lent<u32>,
 }
 
 impl LentTree {
-    fn new(tree: &Tree) -> Self {
+    pub(super) fn new(tree: &Tree) -> Self {
         Self {
             boxes: Lent::new(&tree.boxes),
             nodes: Lent::new(&tree.nodes),
@@ -82,7 +82,7 @@ impl LentTree {
         }
     }
 
-    fn lend(&mut self) -> engine::trees::Tree<'_> {
+    pub(super) fn lend(&mut self) -> engine::trees::Tree<'_> {
         engine::trees::Tree {
             boxes: self.boxes.list(),
             nodes: self.nodes.list(),
@@ -92,7 +92,7 @@ impl LentTree {
 
     /// The first place of a list that does not begin with what was written, or
     /// was changed behind it.
-    fn wrong(&self, written: &Tree) -> Option<Wrong> {
+    pub(super) fn wrong(&self, written: &Tree) -> Option<Wrong> {
         None.or_else(|| self.boxes.wrong("boxes", &written.boxes))
             .or_else(|| self.nodes.wrong("nodes", &written.nodes))
             .or_else(|| self.items.wrong("items", &written.items))
@@ -102,7 +102,7 @@ impl LentTree {
 #[cfg(test)]
 impl Tree {
     /// The tree that is lent.
-    fn of(lists: &engine::trees::Tree) -> Self {
+    pub(super) fn of(lists: &engine::trees::Tree) -> Self {
         Self {
             boxes: lists.boxes.to_vec(),
             nodes: lists.nodes.to_vec(),

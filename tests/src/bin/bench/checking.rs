@@ -2,19 +2,16 @@
 
 use std::hint::black_box;
 
-use csx::Vec3;
 use zirwennach_tests::engine::trees;
 use zirwennach_tests::kinds::meshes::Mesh;
 use zirwennach_tests::kinds::trees::built;
-use zirwennach_tests::random::Random;
 
+use crate::spheres::{POINTS, points};
 use crate::{agree, best_times, in_time, print_row, spheres};
 
 /// How many rounds are run, of which the best counts.
 const ROUNDS: usize = 15;
-/// How many points csx is asked about.
-const POINTS: usize = 65_536;
-/// How many times as long as the check that has to take.
+/// How many times as long as the check csx's answers have to take.
 const TIMES: u32 = 10;
 
 /// Prints the times, and answers whether all trees are accepted and no time is too
@@ -31,10 +28,7 @@ pub fn run() -> bool {
 /// and about the mesh's box.
 fn check((name, mut mesh): (&str, Mesh)) -> bool {
     let csx = mesh.csx().expect("an accepted mesh");
-    let mut random = Random::new(754);
-    let points: Vec<Vec3> = (0..POINTS)
-        .map(|_| Vec3([(); 3].map(|()| 2.4 * random.fraction() - 1.2)))
-        .collect();
+    let points = points();
     let mut tree = built(&mesh);
     let mut work = vec![0; mesh.corners.len()];
     let mut lists = mesh.lend();

@@ -2,6 +2,7 @@
 
 mod building;
 mod checking;
+mod lists;
 mod meshes;
 mod roots;
 mod spheres;
@@ -18,6 +19,7 @@ fn main() -> ExitCode {
         meshes::run(),
         building::run(),
         checking::run(),
+        lists::run(),
     ];
     ExitCode::from(u8::from(agree.contains(&false)))
 }

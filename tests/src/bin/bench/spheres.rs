@@ -1,17 +1,35 @@
-//! Spheres to time trees on.
+//! Spheres to time trees and lists on, and points in and about them.
 
 use std::collections::HashMap;
 
+use csx::Vec3;
 use zirwennach_tests::engine::Point;
 use zirwennach_tests::kinds::meshes::Mesh;
 use zirwennach_tests::kinds::meshes::inputs::Net;
+use zirwennach_tests::random::Random;
 
-/// The two that are timed, with their names.
+/// The two that trees are timed on, with their names.
 pub fn both() -> [(&'static str, Mesh); 2] {
     [
         ("a sphere of 20,480 triangles", icosphere(5)),
         ("a sphere of 64,896 quads", cube_sphere(104)),
     ]
+}
+
+/// A smaller one that lists are timed on too.
+pub fn small() -> (&'static str, Mesh) {
+    ("a sphere of 1,280 triangles", icosphere(3))
+}
+
+/// How many points are asked about.
+pub const POINTS: usize = 65_536;
+
+/// Points anywhere in the box of the spheres, which is from -1 to 1, grown by a
+/// tenth of its size.
+pub fn points() -> Vec<Vec3> {
+    let mut random = Random::new(754);
+    let point = |_| Vec3([(); 3].map(|()| 2.4 * random.fraction() - 1.2));
+    (0..POINTS).map(point).collect()
 }
 
 /// A sphere of 20 triangles, each of which is cut into four so many times.
@@ -114,10 +132,14 @@ mod tests {
 
     #[test]
     fn spheres_are_closed() {
-        for ((_, mesh), triangles) in both().iter().zip([20_480, 129_792]) {
+        let [large, largest] = both();
+        let spheres = [small(), large, largest];
+        for ((_, mesh), triangles) in spheres.iter().zip([1_280, 20_480, 129_792]) {
             let csx = mesh.csx().expect("an accepted mesh");
             assert_eq!(csx.triangles().len(), triangles);
             assert!(csx.is_closed());
+            let bounds = csx.bounding_box();
+            assert_eq!([bounds.min.0, bounds.max.0], [[-1.0; 3], [1.0; 3]]);
         }
     }
 }

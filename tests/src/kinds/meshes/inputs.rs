@@ -84,7 +84,7 @@ impl Net {
     }
 
     /// Adds a net beside this one.
-    fn add(&mut self, other: Net) {
+    pub fn add(&mut self, other: Net) {
         let first = self.vertices;
         self.vertices += other.vertices;
         let faces = other.faces.into_iter();
@@ -163,7 +163,7 @@ pub fn closed(random: &mut Random) -> Net {
 }
 
 /// Two polygons of n corners and the quads between them.
-fn prism(n: u32) -> Net {
+pub fn prism(n: u32) -> Net {
     let side = |i: u32| vec![i, (i + 1) % n, n + (i + 1) % n, n + i];
     let mut faces = vec![(0..n).rev().collect(), (n..2 * n).collect()];
     faces.extend((0..n).map(side));
@@ -174,7 +174,7 @@ fn prism(n: u32) -> Net {
 }
 
 /// A polygon of n corners and the triangles to one more vertex.
-fn pyramid(n: u32) -> Net {
+pub fn pyramid(n: u32) -> Net {
     let mut faces = vec![(0..n).rev().collect()];
     faces.extend((0..n).map(|i| vec![i, (i + 1) % n, n]));
     Net {
@@ -184,7 +184,7 @@ fn pyramid(n: u32) -> Net {
 }
 
 /// A polygon of n corners, twice.
-fn pillow(n: u32) -> Net {
+pub fn pillow(n: u32) -> Net {
     Net {
         vertices: n,
         faces: vec![(0..n).collect(), (0..n).rev().collect()],
@@ -219,7 +219,7 @@ pub fn on_torus(a: u32, b: u32, v: u32) -> Point {
 }
 
 /// Changes a net of one face at least, which may leave it closed or not.
-fn change(net: &mut Net, random: &mut Random) {
+pub fn change(net: &mut Net, random: &mut Random) {
     if net.faces.is_empty() {
         return;
     }

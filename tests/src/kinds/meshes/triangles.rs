@@ -59,7 +59,7 @@ fn ask(line: &mut Line, probe: Probe<u32>, mesh: &Mesh, random: &mut Random) {
 }
 
 /// Whether all faces have equally many corners.
-fn sides(mesh: &Mesh) -> &'static str {
+pub(in crate::kinds) fn sides(mesh: &Mesh) -> &'static str {
     let mut sides = mesh.faces().map(<[_]>::len);
     let Some(first) = sides.next() else {
         return "no faces";

@@ -2,7 +2,7 @@
 
 use super::Case;
 use crate::engine::{Point, Shape};
-use crate::random::{Random, power_of_two};
+use crate::random::{Random, product};
 
 /// Multiplies the lengths of a case by a power of two, so that they are of any
 /// magnitude: those among them where squares and sums overflow, where squares
@@ -44,13 +44,6 @@ fn exponent(case: &mut Case) -> i32 {
     (largest.to_bits() >> 52) as i32 - 1023
 }
 
-/// `x` times 2^e, or the largest value of its sign where that is larger.
-fn product(x: f64, e: i32) -> f64 {
-    let e = e.clamp(-2000, 2000);
-    let half = e / 2;
-    (x * power_of_two(half) * power_of_two(e - half)).clamp(-f64::MAX, f64::MAX)
-}
-
 /// Replaces some numbers of a case by others: of the case, so that vertices and
 /// ends fall together, or any, not only finite ones.
 pub fn alter(case: &mut Case, random: &mut Random) {
@@ -78,15 +71,6 @@ pub fn alter(case: &mut Case, random: &mut Random) {
 mod tests {
     use super::*;
     use crate::kinds::shapes::FORMS;
-
-    #[test]
-    fn products_stay_finite() {
-        assert_eq!(product(3.0, -1), 1.5);
-        assert_eq!(product(1.5, 1023), 1.5 * power_of_two(1023));
-        assert_eq!(product(-3.0, 1023), f64::MIN);
-        assert_eq!(product(1.0, -1074).to_bits(), 1);
-        assert_eq!(product(power_of_two(-1074), 2097), power_of_two(926));
-    }
 
     #[test]
     fn rescaled_cases_stay_finite_and_keep_their_angles() {

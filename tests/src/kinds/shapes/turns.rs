@@ -1,40 +1,27 @@
-//! Where csx's answer turns as one number changes. The two values between which
-//! it turns are neighbours, so that an engine which rounds otherwise is seen.
+//! Where csx's answer turns as a point moves, or as one number of the shape
+//! changes.
 
 use super::expected::Csx;
-use super::{Case, Form, INSIDE, OUTSIDE, with_coordinate};
+use super::{Case, Form, INSIDE, OUTSIDE};
 use crate::engine::Point;
+use crate::kinds::turns::{STEPS, on_the_way};
 use crate::random::{Random, around, turn};
-
-/// How far from a turn is asked.
-const STEPS: i64 = 3;
 
 /// How many changes of a number are tried for one that turns the answer.
 const TRIES: u64 = 4;
 
 /// The case with points about each turn on the way from a point inside to one
-/// outside, which changes a coordinate at a time. There is none if the answers
-/// for the points of the case do not have both.
+/// outside. There is none if the answers for the points of the case do not have
+/// both.
 pub fn of_point(form: &Form, case: &Case, answers: &[u64], random: &mut Random) -> Option<Case> {
     let point = |answer| {
         let place = answers.iter().position(|a| *a == answer)?;
         Some(case.points[place])
     };
-    let (mut p, outside) = (point(INSIDE)?, point(OUTSIDE)?);
+    let (inside, outside) = (point(INSIDE)?, point(OUTSIDE)?);
     let csx = Csx::new(&case.shape, &case.list, form.system);
-    let first = random.below(3) as usize;
-    let mut points = Vec::new();
-    for axis in [first, (first + 1) % 3, (first + 2) % 3] {
-        let at = |x| with_coordinate(p, axis, x);
-        let q = at(outside[axis]);
-        if csx.inside(p) != csx.inside(q) {
-            let x = turn(p[axis], q[axis], |x| csx.inside(at(x)));
-            points.extend(around(x, STEPS).map(at));
-        }
-        p = q;
-    }
     Some(Case {
-        points,
+        points: on_the_way(inside, outside, random, |p| csx.inside(p)),
         ..case.clone()
     })
 }

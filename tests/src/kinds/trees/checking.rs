@@ -18,7 +18,7 @@ use crate::report::Report;
 pub type Check = fn(&mut engine::meshes::Mesh, &mut engine::trees::Tree, &mut [u64]) -> u64;
 
 /// Refusal 7: the tree breaks a rule.
-pub(super) const BROKEN: u64 = 7 * REFUSAL;
+pub(in crate::kinds) const BROKEN: u64 = 7 * REFUSAL;
 
 /// A line of the table, and what it is about.
 struct Asker {
@@ -70,7 +70,7 @@ impl Asker {
 }
 
 /// What is to be answered for an accepted mesh and so many work places.
-fn judged(mesh: &Mesh, own: &[Bounds], tree: &Tree, length: usize) -> u64 {
+pub(in crate::kinds) fn judged(mesh: &Mesh, own: &[Bounds], tree: &Tree, length: usize) -> u64 {
     if length < mesh.corners.len() {
         ROOM
     } else if keeps(&TREE_RULES, tree, own) {
@@ -190,24 +190,25 @@ pub(super) fn paths(report: &mut Report, plan: &Plan, check: Check) {
     leaves.line.add_to(report, &["accepted", "refusal 7"]);
 }
 
-/// A mesh as it is later.
-type Form = fn(&Mesh, &mut Random) -> Mesh;
+/// What a line of trees of other meshes has to see.
+pub(in crate::kinds) const OF_OTHER_MESHES: [&str; 5] = [
+    "revised and accepted",
+    "revised and refused",
+    "reordered and accepted",
+    "reordered and refused",
+    "renumbered and accepted",
+];
 
 /// Trees of an older form of the mesh: before a vertex was moved, before it was
 /// reordered, and before it was renumbered.
 pub(super) fn trees_of_other_meshes(report: &mut Report, plan: &Plan, check: Check) {
     let mut asker = Asker::new(check, plan, "of another mesh");
-    let forms: [(&str, Form); 3] = [
-        ("revised", inputs::revised),
-        ("reordered", inputs::reordered),
-        ("renumbered", inputs::renumbered),
-    ];
     for _ in 0..plan.times(40_000) {
         let random = &mut asker.random;
         let old = inputs::mesh(random);
         let own = own_boxes(&old);
         let tree = others::any(&own, random);
-        for (name, form) in forms {
+        for (name, form) in inputs::LATER {
             let mesh = form(&old, &mut asker.random);
             let answer = match asker.ask(&mesh, &own_boxes(&mesh), &tree) {
                 0 => "accepted",
@@ -217,14 +218,7 @@ pub(super) fn trees_of_other_meshes(report: &mut Report, plan: &Plan, check: Che
             asker.line.see(format!("{name} and {answer}"));
         }
     }
-    let needed = [
-        "revised and accepted",
-        "revised and refused",
-        "reordered and accepted",
-        "reordered and refused",
-        "renumbered and accepted",
-    ];
-    asker.line.add_to(report, &needed);
+    asker.line.add_to(report, &OF_OTHER_MESHES);
 }
 
 /// Trees with each sort of damage.
@@ -266,7 +260,7 @@ pub(super) fn refusals(report: &mut Report, plan: &Plan, check: Check) {
             refusal(&mesh).unwrap_or_else(|| judged(&mesh, &own_boxes(&mesh), &tree, length));
         asker.compare(&mesh, &tree, length, want);
     }
-    asker.line.add_to(report, &QUESTIONS);
+    asker.line.add_to(report, &QUESTIONS[..8]);
 }
 
 /// Compares large meshes, with their own trees and with damaged ones.

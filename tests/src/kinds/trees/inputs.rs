@@ -179,6 +179,16 @@ pub fn large(random: &mut Random) -> Vec<Mesh> {
     meshes
 }
 
+/// Another form of a mesh.
+pub type Form = fn(&Mesh, &mut Random) -> Mesh;
+
+/// The forms of a mesh later than its tree.
+pub const LATER: [(&str, Form); 3] = [
+    ("revised", revised),
+    ("reordered", reordered),
+    ("renumbered", renumbered),
+];
+
 /// The mesh with a vertex that is a corner moved: by a last bit or a few, to the
 /// other zero, or anywhere.
 pub fn revised(mesh: &Mesh, random: &mut Random) -> Mesh {
