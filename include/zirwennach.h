@@ -123,6 +123,25 @@ uint64_t csx_check_tree(const double *coords, size_t coords_length, const uint32
                         size_t nodes_length, const uint32_t *items, size_t items_length,
                         uint64_t *work, size_t work_length);
 
+/* Answers a list of points: which of them lie inside a mesh. points has x, y, z of each point, answers a place
+   for each; a point is answered 0 outside, 1 inside, 2 undecided. Which tree is lent changes no answer, as
+   long as it keeps the rules. The buffers must not overlap. Returns 0, or:
+     1,000,000 to 5,000,000 + vertex   as csx_build_tree says of the mesh
+     6,000,000           work has fewer places than there are corners
+     7,000,000           the tree does not keep the rules
+     8,000,000           points is no multiple of 3 numbers or has more than 65,536 points, or answers is not
+                         exactly a third as long
+     9,000,000 + point   this point, counted from 0, is infinite or NaN
+   A call that is refused by 1 to 6 changes nothing, and no refused call changes answers. One that is refused
+   by 7, 8 or 9 leaves 0 in the first places of work, one a corner; one that is not refused leaves there the
+   keys of the edges, smaller vertex * 65536 + larger, ascending. What lies past them is unchanged. */
+uint64_t csx_contains_list(const double *coords, size_t coords_length, const uint32_t *corners,
+                           size_t corners_length, const uint32_t *ends, size_t ends_length,
+                           const double *boxes, size_t boxes_length, const uint32_t *nodes,
+                           size_t nodes_length, const uint32_t *items, size_t items_length,
+                           uint64_t *work, size_t work_length, const double *points,
+                           size_t points_length, uint8_t *answers, size_t answers_length);
+
 /* The square root of x, rounded to the nearest double: IEEE 754's. NaN of NaN and of every negative
    number, a zero of the same zero. */
 double csx_root(double x);
