@@ -1,9 +1,9 @@
 -- What leads from the steps of `contains_list` to its promise: where a question refuses, and where none does.
 use Prim.Native.Nat.{ℕ, _+_, _*_, _/_, _%_, _≤_, _<_}
 use native.Mathlib.Omega.{arith}
-use mathlib.Core.Path.{_≡_, refl, sym, ap, _∙_}
-use mathlib.Core.Bool.{Bool, true, _&&_}
-use mathlib.Core.List.{List, [], map}
+use mathlib.Core.Path.{_≡_, sym, ap, _∙_}
+use mathlib.Core.Bool.{true, _&&_}
+use mathlib.Core.List.{List}
 use lib.Dec.{eqb, leb}
 use lib.Ieee.{Float, nan}
 use lib.ListN.{length, getD, take, set, replicate, length-replicate, length-map, List·getD-map}
@@ -19,19 +19,17 @@ use Rattle.refusal.specs.Verdicts.{written, ask-passed, then-passed}
 use Rattle.math.specs.declared.Vec3.{Vec3}
 use Rattle.math.specs.Vectors.{vec, at, points, isFinite, length-points, getD-points}
 use Rattle.mesh.specs.Faces.{faces}
-use Rattle.mesh.specs.Questions.{askFinite}
 use Rattle.mesh.specs.Walks.{both}
 use Rattle.mesh.specs.Accepted.{Accepted, finite-of}
 use Rattle.mesh.specs.Mesh.{Mesh}
 use Rattle.edges.specs.Edges.{edgeKeys, closed}
 use Rattle.edges.specs.PairLaws.{length-sortedKeys}
 use Rattle.tree.specs.Tree.{Tree}
-use Rattle.tree.specs.TreeRules.{TreeRules}
 use Rattle.tree.specs.Check as Check
 use Rattle.tree.specs.Check.{askRoom, askTree, checkAnswer, room-passed, check-accepts}
 use Rattle.scan.specs.Scan.{plainScan}
 use Rattle.walks.specs.declared.points.Prepared.{Prepared}
-use Rattle.walks.specs.Walks.{prepared, Asked}
+use Rattle.walks.specs.Walks.{prepared}
 use Rattle.polyhedron.specs.Lists.{listFits, askPoints, askList, listVerdict, answersTo, listAnswer, keysLeft, listWork, Contains, Answerable}
 
 -- ---- the answers

@@ -28,11 +28,11 @@ nearPlaces inverse = record { x = nearPlace (inverse .x) 0; y = nearPlace (inver
 unfoldable pub meetsAt : List Float → ℕ → Float → Float → Float
 meetsAt boxes i origin inverse = (getD boxes i nan ⊖ origin) ⊗ inverse
 
--- what `hits_node` takes for granted: the node is in the list, the ray and its box are as the quicker test wants them, and `near` is right
-pub record Seen (boxes : List Float) (n : ℕ) (ray : Ray) (near : Near) : Type 0 where
+-- what `hits_node` takes for granted: the node is in the list, the ray and its box are as the quicker test wants them, and the ray's places are right
+pub record Seen (boxes : List Float) (n : ℕ) (ray : Ray) : Type 0 where
   pub there : 6 * n + 5 < length boxes
   pub met : Met (ray .origin) (ray .inverse) (boxAt boxes n)
-  pub near-is : near ≡ nearPlaces (ray .inverse)
+  pub near : ray .near ≡ nearPlaces (ray .inverse)
 
 -- on one axis: the nearer plane is where the ray enters the slab, the farther one where it leaves
 module _ (boxes : List Float) (i axis place : ℕ) (origin inverse : Float) (near : place ≡ nearPlace inverse axis) where
@@ -59,7 +59,10 @@ nearPlace-within : (inverse : Float) (axis : ℕ) → (axis ≤ nearPlace invers
 unfolding nearPlace
 nearPlace-within inverse axis = by-test (lt zero inverse) (λ e. rw e (omega arith, omega arith)) (λ e. rw e (omega arith, omega arith))
 
-module _ {boxes : List Float} {n : ℕ} {ray : Ray} {near : Near} (s : Seen boxes n ray near) where
+module _ {boxes : List Float} {n : ℕ} {ray : Ray} (s : Seen boxes n ray) where
+  abbrev near : Near
+  near = ray .near
+
   abbrev b : BoundingBox
   b = boxAt boxes n
 
@@ -71,7 +74,7 @@ module _ {boxes : List Float} {n : ℕ} {ray : Ray} {near : Near} (s : Seen boxe
 
   places : (near .x ≡ nearPlace (inv .x) 0) × (near .y ≡ nearPlace (inv .y) 1) × (near .z ≡ nearPlace (inv .z) 2)
   unfolding nearPlaces
-  places = (ap (λ (near : Near). near .x) (s .near-is), ap (λ (near : Near). near .y) (s .near-is), ap (λ (near : Near). near .z) (s .near-is))
+  places = (ap (λ (near : Near). near .x) (s .near), ap (λ (near : Near). near .y) (s .near), ap (λ (near : Near). near .z) (s .near))
 
   -- the places lie in the node's six floats
   pub places-within : (near .x ≤ 3) × (near .y ≤ 4) × (near .z ≤ 5) × (2 ≤ near .z)

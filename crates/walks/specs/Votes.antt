@@ -28,6 +28,7 @@ use Rattle.scan.specs.declared.votes.Vote.the-variants.{None, Odd, Even}
 use Rattle.scan.specs.declared.votes.Votes.{Votes}
 use Rattle.scan.specs.Scan.{inverse, directions, counted, ended, votesFrom}
 use Rattle.walks.specs.declared.points.Prepared.{Prepared}
+use Rattle.walks.specs.Planes.{nearPlaces}
 use Rattle.walks.specs.Walks.{direction, prepared, Ready, Asked}
 
 -- ---- the directions
@@ -39,6 +40,14 @@ inverse-at zero h = refl
 inverse-at (suc zero) h = refl
 inverse-at (suc (suc zero)) h = refl
 inverse-at (suc (suc (suc k))) h = absurd (omega arith)
+
+-- and the places of the nearer planes
+pub near-at : (k : ℕ) → k < 3 → getD (map nearPlaces (map inverse directions)) k (record { x = 0; y = 0; z = 0 }) ≡ nearPlaces (inverse (direction k))
+unfolding direction directions
+near-at zero h = refl
+near-at (suc zero) h = refl
+near-at (suc (suc zero)) h = refl
+near-at (suc (suc (suc k))) h = absurd (omega arith)
 
 -- it is finite and not zero
 pub inverse-factors : (k : ℕ) → k < 3 → finiteNonZero (inverse (direction k)) ≡ true

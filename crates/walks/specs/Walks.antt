@@ -21,6 +21,7 @@ use Rattle.intersect.specs.BoxLaws.{finiteNonZero}
 use Rattle.scan.specs.declared.votes.Vote.{Vote}
 use Rattle.scan.specs.Scan.{some, surfacePasses, touches, inverse, directions, rayPasses, found, isDegenerate, voteOver}
 use Rattle.walks.specs.declared.rays.Ray.{Ray}
+use Rattle.walks.specs.Planes.{nearPlaces}
 use Rattle.walks.specs.declared.points.Prepared.{Prepared}
 
 -- what a walk comes to: a node, whose box it tests, or a triangle of a leaf
@@ -85,11 +86,12 @@ pub record Ready (m : Mesh) (given : ℕ) (t : Tree) : Type 0 where
   pub sides : given ≡ Triangles.sides (m .ends)
   pub rules : TreeRules m t
 
--- and of a ray: its origin is finite, and `inverse` is one over its direction, finite and not zero
+-- and of a ray: its origin is finite, `inverse` is one over its direction, finite and not zero, and `near` has the places of the nearer planes
 pub record Cast (ray : Ray) : Type 0 where
   pub origin : isFinite (ray .origin) ≡ true
   pub inverse : ray .inverse ≡ inverse (ray .direction)
   pub factors : finiteNonZero (ray .inverse) ≡ true
+  pub near : ray .near ≡ nearPlaces (ray .inverse)
 
 -- direction k
 unfoldable pub direction : ℕ → Vec3
@@ -97,7 +99,7 @@ direction k = getD directions k (vec nan nan nan)
 
 -- what is worked out once for a list of points, of a mesh that is closed or not
 unfoldable pub prepared : List Float → List ℕ → Bool → Prepared
-prepared coords ends closed = record { sides = Triangles.sides ends; bounds = prepare coords; closed = closed; inverses = map inverse directions }
+prepared coords ends closed = record { sides = Triangles.sides ends; bounds = prepare coords; closed = closed; inverses = map inverse directions; near = map nearPlaces (map inverse directions) }
 
 -- what `point_answer` takes for granted: an accepted mesh, a tree that keeps the rules, what is prepared of the mesh, and a finite point
 pub record Asked (m : Mesh) (t : Tree) (given : Prepared) (p : Vec3) : Type 0 where

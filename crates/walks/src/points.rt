@@ -5,9 +5,11 @@ ghost use Rattle.mesh.specs.Mesh as Mesh;
 ghost use Rattle.tree.specs.Tree as Tree;
 ghost use Rattle.scan.specs.Scan as Scan;
 ghost use Rattle.walks.specs.Walks as Walks;
+use crate::rays::Near;
 use crate::rays::Ray;
 use crate::rays::direction;
 use crate::rays::inverses;
+use crate::rays::near_planes;
 use crate::rays::ray_walk;
 use crate::surface::surface_walk;
 use math::Vec3;
@@ -23,6 +25,8 @@ pub struct Prepared {
     pub closed: bool,
     // One over each direction.
     pub inverses: [Vec3; 3],
+    // For each direction the places of the nearer planes of a node.
+    pub near: [Near; 3],
 }
 
 // The votes on a point.
@@ -49,6 +53,7 @@ fn votes(
             origin: p,
             direction: direction(k),
             inverse: prepared.inverses[k],
+            near: prepared.near[k],
         };
         let vote = ray_walk(
             coords,
@@ -113,5 +118,6 @@ pub fn prepare(coords: &[f64], ends: &[u32], closed: bool) -> Prepared
         bounds: mesh::boxes::prepare(coords),
         closed: closed,
         inverses: inverses(),
+        near: near_planes(),
     }
 }

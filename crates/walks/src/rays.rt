@@ -32,11 +32,19 @@ const RAY_DIRS: [[f64; 3]; 3] = [
     [0.1980622641951621, -0.881373587019543, 0.4294494086704378],
 ];
 
-// A ray: where it begins, its direction, and one over that, axis by axis.
+// Where among the six floats of a node the nearer plane of each slab stands.
+pub struct Near {
+    pub x: usize,
+    pub y: usize,
+    pub z: usize,
+}
+
+// A ray: where it begins, its direction, one over that, axis by axis, and the places of the nearer planes.
 pub struct Ray {
     pub origin: Vec3,
     pub direction: Vec3,
     pub inverse: Vec3,
+    pub near: Near,
 }
 
 // Direction `k`.
@@ -66,13 +74,6 @@ pub fn inverses() -> [Vec3; 3]
     ]
 }
 
-// Where among the six floats of a node the nearer plane of each slab stands.
-struct Near {
-    x: usize,
-    y: usize,
-    z: usize,
-}
-
 // That place on one axis: of the minimum, unless the ray comes from the other side.
 fn near_place(inverse: f64, axis: usize) -> usize
     requires { ⌜ axis < 3 ⌝ }
@@ -92,6 +93,17 @@ fn near_places(inverse: Vec3) -> Near
     }
 }
 
+// The places for each direction.
+pub fn near_planes() -> [Near; 3]
+    ensures { λ r. ⌜ r ≡ map Planes.nearPlaces (map Scan.inverse Scan.directions) ⌝ }
+{
+    [
+        near_places(inverse(direction(0))),
+        near_places(inverse(direction(1))),
+        near_places(inverse(direction(2))),
+    ]
+}
+
 // Where the ray meets the plane at place `i`, on one axis.
 fn meets(boxes: &[f64], i: usize, origin: f64, inverse: f64) -> f64
     requires { ⌜ i < length (now boxes) ⌝ }
@@ -101,12 +113,13 @@ fn meets(boxes: &[f64], i: usize, origin: f64, inverse: f64) -> f64
 }
 
 // Whether the ray meets the box of node `n`: `ray_hits_box`, with the planes read by their places.
-fn hits_node(boxes: &[f64], n: usize, ray: Ray, near: Near) -> bool
-    requires { ⌜ Planes.Seen (now boxes) n ray near ⌝ }
+fn hits_node(boxes: &[f64], n: usize, ray: Ray) -> bool
+    requires { ⌜ Planes.Seen (now boxes) n ray ⌝ }
     ensures { λ r. ⌜ r ≡ Rays.rayHitsBox (ray .origin) (ray .inverse) (Tree.boxAt (now (boxes .entry)) n) ⌝ }
 {
     let o = ray.origin;
     let inv = ray.inverse;
+    let near = ray.near;
     let i = 6 * n;
     overlap(
         meets(boxes, i + near.x, o.x, inv.x),
@@ -188,12 +201,11 @@ pub fn ray_walk(
     let mut stack = [0; 32];
     let mut top = start_height(nodes);
     let mut vote = Vote::Even;
-    let near = near_places(ray.inverse);
     while top > 0 {
         let k = top - 1;
         let n: usize = stack[k];
         top = k;
-        if hits_node(boxes, n, ray, near) {
+        if hits_node(boxes, n, ray) {
             let node = node_at(nodes, n);
             if node.count == 0 {
                 push_children(&mut stack, k, n + 1, node.start);

@@ -1,7 +1,7 @@
 -- `answer_points` meets its contract. The invariant: the first i answers are written. The measure is the points that are left.
 use Prim.Native.Nat.{_-_, _/_, _≤_}
 use native.Mathlib.Omega.{arith}
-use mathlib.Core.Path.{_≡_, refl, sym, ap, _∙_}
+use mathlib.Core.Path.{_≡_, refl, sym, _∙_}
 use lib.ListN.{length, take, length-set}
 use borrow.Author.Needs.{needs}
 use Rattle.lent.specs.Over.{over, over-nothing}
@@ -10,10 +10,6 @@ use Rattle.polyhedron.specs.Lists.{answersTo}
 use Rattle.polyhedron.specs.ListLaws.{answers-next, answers-all}
 use Rattle.polyhedron.proofs.lists.answer_points.Statement.{statement}
 use Rattle.polyhedron.proofs.lists.answer_points.Tie as tie
-use Rattle.polyhedron.proofs.lists.answer_points.Reads as reads
-use Rattle.polyhedron.proofs.lists.answer_points.Lts as lts
-use Rattle.math.proofs.Vec3.at.Reads as at-reads
-use Rattle.walks.proofs.points.point_answer.Reads as point-answer-reads
 
 abbrev Inv-loop : tie.InvT-loop
 Inv-loop coords corners ends boxes nodes items prepared points answers₀ n i₀ answers i =
@@ -22,35 +18,27 @@ Inv-loop coords corners ends boxes nodes items prepared points answers₀ n i₀
 abbrev μ-loop : tie.MeasureT-loop
 μ-loop coords corners ends boxes nodes items prepared points answers₀ n i₀ answers i = n - i
 
--- src/lists.rt:61:5
 loop-holds : tie.Need-loop-holds Inv-loop μ-loop
 loop-holds c = (omega arith, refl, sym (over-nothing _))
 
--- src/lists.rt:62:34
 mul-at : tie.Need-mul-at Inv-loop μ-loop
 mul-at c = search needs
 
--- src/lists.rt:62:13
 at-requires : tie.Need-at-requires Inv-loop μ-loop
 at-requires c κs = search needs
 
--- src/lists.rt:63:22
 point-answer-requires : tie.Need-point-answer-requires Inv-loop μ-loop
 point-answer-requires c κs = rw (c .at .ensures) (c .before .before .before .before .before .before .before .before .before .before .before .pre .point (c .before .before .loop .i) (omega arith))
 
--- src/lists.rt:63:9
 slice-write-answers : tie.Need-slice-write-answers Inv-loop μ-loop
 slice-write-answers c = search needs
 
--- src/lists.rt:64:9
 add-i : tie.Need-add-i Inv-loop μ-loop
 add-i c = search needs
 
--- src/lists.rt:61:5
 loop-less : tie.Need-loop-less Inv-loop μ-loop
 loop-less c = search needs
 
--- src/lists.rt:61:5
 loop-again : tie.Need-loop-again Inv-loop μ-loop
 loop-again c =
     let start = c .before .before .before .before .before .before .before .before .before .before .before .before in
@@ -59,11 +47,9 @@ loop-again c =
     let next = answers-next m (start .args .points .now) (start .args .answers .now) (s .i) (start .pre .enough) (omega arith) in
     (omega arith, simp length-set (s .inv .1), rw (s .inv .2, c .point-answer .ensures, c .before .at .ensures) next)
 
--- src/lists.rt:45:1
 same-length : tie.Need-same-length Inv-loop μ-loop
 same-length c = search needs
 
--- src/lists.rt:45:1
 returns : tie.Need-returns Inv-loop μ-loop
 returns c =
     let start = c .before .before .before .before .before .before .before .before .before .before in

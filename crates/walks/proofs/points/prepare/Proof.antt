@@ -13,9 +13,12 @@ prepare-requires c κs = search needs
 inverses-requires : tie.Need-inverses-requires
 inverses-requires c κs = search needs
 
+near-planes-requires : tie.Need-near-planes-requires
+near-planes-requires c κs = search needs
+
 returns : tie.Need-returns
 unfolding prepared
 returns c = cc
 
 pub prepare-spec : {M : Type 1} → statement M
-prepare-spec = tie.close (tie.spec sides-requires prepare-requires inverses-requires returns)
+prepare-spec = tie.close (tie.spec sides-requires prepare-requires inverses-requires near-planes-requires returns)

@@ -12,7 +12,7 @@ use Rattle.scan.specs.Scan.{vote, directions, votesFrom}
 use Rattle.walks.specs.declared.points.Prepared.{Prepared}
 use Rattle.walks.specs.Walks.{direction, prepared}
 use Rattle.walks.specs.WalkScan.{walkVote-scan}
-use Rattle.walks.specs.Votes.{inverse-at, inverse-factors, votesFrom-next, counted-sum, asked-ready}
+use Rattle.walks.specs.Votes.{inverse-at, near-at, inverse-factors, votesFrom-next, counted-sum, asked-ready}
 use Rattle.walks.proofs.points.votes.Statement.{statement}
 use Rattle.walks.proofs.points.votes.Tie as tie
 
@@ -45,14 +45,21 @@ mul-t17 c = search needs
 element-copy-out-t20 : tie.Need-element-copy-out-t20 Inv-loop μ-loop
 element-copy-out-t20 c = search needs
 
+mul-t21 : tie.Need-mul-t21 Inv-loop μ-loop
+mul-t21 c = search needs
+
+element-copy-out-t24 : tie.Need-element-copy-out-t24 Inv-loop μ-loop
+element-copy-out-t24 c = search needs
+
 ray-walk-requires : tie.Need-ray-walk-requires Inv-loop μ-loop
 unfolding prepared
 ray-walk-requires c κs =
-    let a = c .before .before .before .before .before .before .before .before .before .before .before .before .pre in
-    let k = c .before .before .before .before .before .loop .k in
+    let a = c .before .before .before .before .before .before .before .before .before .before .before .before .before .pre in
+    let k = c .before .before .before .before .before .before .loop .k in
     let there : k < 3 = omega arith in
     let one = ap (λ (given : Prepared). getD (given .inverses) k (vec nan nan nan)) (a .prepared) ∙ inverse-at k there in
-    (asked-ready a, record { origin = a .finite; inverse = one ∙ ap Scan.inverse (sym (c .before .direction .ensures)); factors = rw one (inverse-factors k there) })
+    let places = ap (λ (given : Prepared). getD (given .near) k (record { x = 0; y = 0; z = 0 })) (a .prepared) in
+    (asked-ready a, record { origin = a .finite; inverse = one ∙ ap Scan.inverse (sym (c .before .before .direction .ensures)); factors = rw one (inverse-factors k there); near = rw one (places ∙ near-at k there) })
 
 counted-requires : tie.Need-counted-requires Inv-loop μ-loop
 counted-requires c κs = search needs
@@ -65,14 +72,14 @@ loop-less c = search needs
 
 loop-again : tie.Need-loop-again Inv-loop μ-loop
 loop-again c =
-    let a = c .before .before .before .before .before .before .before .before .before .before .before .before .before .before .pre in
-    let k = c .before .before .before .before .before .before .before .loop .k in
+    let a = c .before .before .before .before .before .before .before .before .before .before .before .before .before .before .before .pre in
+    let k = c .before .before .before .before .before .before .before .before .loop .k in
     let there : k < 3 = omega arith in
-    let vote = rw (c .before .before .before .direction .ensures) at (c .before .ray-walk .ensures) ∙ walkVote-scan (asked-ready a) (c .before .before .before .before .before .before .before .before .before .before .before .before .before .before .args .p) (direction k) (a .finite) (inverse-factors k there) in
-    let sum = counted-sum (c .before .before .before .before .before .before .before .loop .votes) (c .before .ray-walk .result) in (
+    let vote = rw (c .before .before .before .before .direction .ensures) at (c .before .ray-walk .ensures) ∙ walkVote-scan (asked-ready a) (c .before .before .before .before .before .before .before .before .before .before .before .before .before .before .before .args .p) (direction k) (a .finite) (inverse-factors k there) in
+    let sum = counted-sum (c .before .before .before .before .before .before .before .before .loop .votes) (c .before .ray-walk .result) in (
       omega arith,
       rw (c .counted .ensures) (omega (arith, sum)),
-      rw (c .counted .ensures, vote) (sym (votesFrom-next _ _ k there ∙ rw (sym (c .before .before .before .before .before .ended .ensures), c .before .before .before .before .if1 .left)) ∙ c .before .before .before .before .before .before .before .loop .inv .2),
+      rw (c .counted .ensures, vote) (sym (votesFrom-next _ _ k there ∙ rw (sym (c .before .before .before .before .before .before .ended .ensures), c .before .before .before .before .before .if1 .left)) ∙ c .before .before .before .before .before .before .before .before .loop .inv .2),
     )
 
 returns-2 : tie.Need-returns-2 Inv-loop μ-loop
@@ -93,6 +100,8 @@ votes-spec =
     direction-requires
     mul-t17
     element-copy-out-t20
+    mul-t21
+    element-copy-out-t24
     ray-walk-requires
     counted-requires
     add-k

@@ -20,38 +20,30 @@ Inv-loop coords corners ends sides items i places ray end vote₀ k₀ vote k =
 abbrev μ-loop : tie.MeasureT-loop
 μ-loop coords corners ends sides items i places ray end vote₀ k₀ vote k = end - k
 
--- src/rays.rt:71:15
 add-end : tie.Need-add-end Inv-loop μ-loop
 add-end c = search needs
 
--- src/rays.rt:74:5
 loop-holds : tie.Need-loop-holds Inv-loop μ-loop
 loop-holds c =
     let a = c .before .before .before .before .args in
     let all : a .i + a .places - a .i ≡ a .places = omega arith in
     (omega arith, omega arith, rw all refl)
 
--- src/rays.rt:75:67
 mul-found : tie.Need-mul-found Inv-loop μ-loop
 mul-found c = search needs
 
--- src/rays.rt:75:67
 shared-slice-read-found : tie.Need-shared-slice-read-found Inv-loop μ-loop
 shared-slice-read-found c = search needs
 
--- src/rays.rt:75:26
 found-requires : tie.Need-found-requires Inv-loop μ-loop
 found-requires c κs = (item-at (c .before .before .before .before .before .before .before .pre .0) (c .before .before .loop .k) (omega arith), c .before .before .before .before .before .before .before .pre .2)
 
--- src/rays.rt:75:9
 with-requires : tie.Need-with-requires Inv-loop μ-loop
 with-requires c κs = search needs
 
--- src/rays.rt:77:13
 enum-told : tie.Need-enum-told Inv-loop μ-loop
 enum-told c = search needs
 
--- src/rays.rt:77:13
 returns : tie.Need-returns Inv-loop μ-loop
 unfolding castOver
 returns c =
@@ -62,15 +54,12 @@ returns c =
     let next = itemsFrom-next (a .items .now) k (a .i + a .places) (omega arith) in
     sym (castOver-none find rest) ∙ rw (sym (c .enum-told .given .1), c .before .before .with .ensures, c .before .before .before .found .ensures) (rw next at (c .before .before .before .before .before .before .loop .inv .2))
 
--- src/rays.rt:79:9
 add-k : tie.Need-add-k Inv-loop μ-loop
 add-k c = search needs
 
--- src/rays.rt:74:5
 loop-less : tie.Need-loop-less Inv-loop μ-loop
 loop-less c = search needs
 
--- src/rays.rt:74:5
 loop-again : tie.Need-loop-again Inv-loop μ-loop
 unfolding castOver
 loop-again c =
@@ -81,7 +70,6 @@ loop-again c =
     let next = itemsFrom-next (a .items .now) k (a .i + a .places) (omega arith) in
     (omega arith, omega arith, rw (c .before .with .ensures, c .before .before .found .ensures) (rw next at (c .before .before .before .before .before .loop .inv .2)))
 
--- src/rays.rt:57:1
 returns-2 : tie.Need-returns-2 Inv-loop μ-loop
 unfolding castOver itemsFrom
 returns-2 c =

@@ -17,7 +17,7 @@ use Rattle.walks.proofs.rays.ray_walk.Statement.{statement}
 use Rattle.walks.proofs.rays.ray_walk.Tie as tie
 
 abbrev Inv-loop : tie.InvT-loop
-Inv-loop coords corners ends sides boxes nodes items ray stack₀ top₀ vote₀ near stack top vote =
+Inv-loop coords corners ends sides boxes nodes items ray stack₀ top₀ vote₀ stack top vote =
     let m = mesh coords corners ends in
     let t = tree boxes nodes items in
     let find = found m (ray .direction) (ray .origin) in
@@ -25,16 +25,13 @@ Inv-loop coords corners ends sides boxes nodes items ray stack₀ top₀ vote₀
     Walking m t stack top × (castOver find vote (pending t passes stack top) ≡ castOver find Even (reached (allVisits t passes)))
 
 abbrev μ-loop : tie.MeasureT-loop
-μ-loop coords corners ends sides boxes nodes items ray stack₀ top₀ vote₀ near stack top vote = ahead (tree boxes nodes items) stack top
+μ-loop coords corners ends sides boxes nodes items ray stack₀ top₀ vote₀ stack top vote = ahead (tree boxes nodes items) stack top
 
 start-height-requires : tie.Need-start-height-requires Inv-loop μ-loop
 start-height-requires c κs = search needs
 
-near-places-requires : tie.Need-near-places-requires Inv-loop μ-loop
-near-places-requires c κs = search needs
-
 loop-holds : tie.Need-loop-holds Inv-loop μ-loop
-loop-holds c = rw (c .before .start-height .ensures) (Stacks.start _ _ (c .before .before .before .before .before .before .before .before .pre .0 .rules), ap (castOver _ Even) (Stacks.start-same _ _))
+loop-holds c = rw (c .start-height .ensures) (Stacks.start _ _ (c .before .before .before .before .before .before .before .pre .0 .rules), ap (castOver _ Even) (Stacks.start-same _ _))
 
 sub-k : tie.Need-sub-k Inv-loop μ-loop
 sub-k c = search needs
@@ -47,21 +44,21 @@ array-read-n c = Stacks.node-there (c .before .loop .inv .0) (omega arith) .0
 
 hits-node-requires : tie.Need-hits-node-requires Inv-loop μ-loop
 hits-node-requires c κs =
-    let ready = c .before .before .before .before .before .before .before .before .before .before .pre .0 in
-    let cast = c .before .before .before .before .before .before .before .before .before .before .pre .1 in
+    let ready = c .before .before .before .before .before .before .before .before .before .pre .0 in
+    let cast = c .before .before .before .before .before .before .before .before .before .pre .1 in
     let walking = c .before .loop .inv .0 in
     record {
       there = omega (arith, Stacks.node-there walking (omega arith) .1, ready .rules .boxes);
       met = record { origin = cast .origin; direction = cast .factors; some = Stacks.node-not-empty walking (omega arith) ready };
-      near-is = c .before .before .near-places .ensures;
+      near = cast .near;
     }
 
 node-at-requires : tie.Need-node-at-requires Inv-loop μ-loop
-node-at-requires c κs = omega (arith, Stacks.node-there (c .before .before .before .loop .inv .0) (omega arith) .1, c .before .before .before .before .before .before .before .before .before .before .before .before .pre .0 .rules .nodes)
+node-at-requires c κs = omega (arith, Stacks.node-there (c .before .before .before .loop .inv .0) (omega arith) .1, c .before .before .before .before .before .before .before .before .before .before .before .pre .0 .rules .nodes)
 
 add-push-children : tie.Need-add-push-children Inv-loop μ-loop
 add-push-children c =
-    omega (arith, c .before .before .before .before .before .before .before .before .before .before .before .before .before .before .before .before .good .1 .1 .1 .1 .1 .0 .1, Stacks.node-there (c .before .before .before .before .before .before .before .loop .inv .0) (omega arith) .1, c .before .before .before .before .before .before .before .before .before .before .before .before .before .before .before .before .pre .0 .rules .nodes)
+    omega (arith, c .before .before .before .before .before .before .before .before .before .before .before .before .before .before .before .good .1 .1 .1 .1 .1 .0 .1, Stacks.node-there (c .before .before .before .before .before .before .before .loop .inv .0) (omega arith) .1, c .before .before .before .before .before .before .before .before .before .before .before .before .before .before .before .pre .0 .rules .nodes)
 
 push-children-requires : tie.Need-push-children-requires Inv-loop μ-loop
 unfolding countOf
@@ -79,7 +76,7 @@ loop-again : tie.Need-loop-again Inv-loop μ-loop
 unfolding startOf countOf rayPasses
 loop-again c =
     let count = sym (c .before .before .before .before .node-at .ensures .1) ∙ c .before .before .if2 .taken in
-    let passes = rw (c .before .before .before .before .before .before .before .before .before .before .before .before .before .before .before .before .before .pre .1 .inverse) at (sym (c .before .before .before .before .before .before .hits-node .ensures) ∙ c .before .before .before .before .before .if1 .taken) in
+    let passes = rw (c .before .before .before .before .before .before .before .before .before .before .before .before .before .before .before .before .pre .1 .inverse) at (sym (c .before .before .before .before .before .before .hits-node .ensures) ∙ c .before .before .before .before .before .if1 .taken) in
     rw (c .push-children .ensures, c .before .before .before .before .node-at .ensures .0)
     (Stacks.after-inner (c .before .before .before .before .before .before .before .before .loop .inv .0) (omega arith) count, sym (ap (castOver _ _) (Stacks.inner-pending (c .before .before .before .before .before .before .before .before .loop .inv .0) (omega arith) count _ passes)) ∙ c .before .before .before .before .before .before .before .before .loop .inv .1)
 
@@ -87,9 +84,9 @@ leaf-vote-requires : tie.Need-leaf-vote-requires Inv-loop μ-loop
 unfolding startOf countOf
 leaf-vote-requires c κs =
     let node = c .before .before .node-at .ensures in (
-      ready-items (c .before .before .before .before .before .before .before .before .before .before .before .before .before .before .before .pre .0),
-      omega (arith, node .0, node .1, c .before .before .before .before .before .before .before .before .before .before .before .before .before .before .before .pre .0 .rules .items, Stacks.leaf-within (c .before .before .before .before .before .before .loop .inv .0) (omega arith) (omega (arith, node .1, c .if2 .left))),
-      c .before .before .before .before .before .before .before .before .before .before .before .before .before .before .before .pre .1,
+      ready-items (c .before .before .before .before .before .before .before .before .before .before .before .before .before .before .pre .0),
+      omega (arith, node .0, node .1, c .before .before .before .before .before .before .before .before .before .before .before .before .before .before .pre .0 .rules .items, Stacks.leaf-within (c .before .before .before .before .before .before .loop .inv .0) (omega arith) (omega (arith, node .1, c .if2 .left))),
+      c .before .before .before .before .before .before .before .before .before .before .before .before .before .before .pre .1,
     )
 
 enum-told : tie.Need-enum-told Inv-loop μ-loop
@@ -99,8 +96,8 @@ returns : tie.Need-returns Inv-loop μ-loop
 unfolding walkVote rayWalk startOf countOf rayPasses
 returns c =
     let node = c .before .before .before .before .before .node-at .ensures in
-    let passes = rw (c .before .before .before .before .before .before .before .before .before .before .before .before .before .before .before .before .before .before .pre .1 .inverse) at (sym (c .before .before .before .before .before .before .before .hits-node .ensures) ∙ c .before .before .before .before .before .before .if1 .taken) in
-    let leaf = Stacks.leaf-pending (c .before .before .before .before .before .before .before .before .before .loop .inv .0) (omega arith) (rayPasses (c .before .before .before .before .before .before .before .before .before .before .before .before .before .before .before .before .before .before .args .ray .direction) (c .before .before .before .before .before .before .before .before .before .before .before .before .before .before .before .before .before .before .args .ray .origin)) passes (omega (arith, node .1, c .before .before .before .if2 .left)) in
+    let passes = rw (c .before .before .before .before .before .before .before .before .before .before .before .before .before .before .before .before .before .pre .1 .inverse) at (sym (c .before .before .before .before .before .before .before .hits-node .ensures) ∙ c .before .before .before .before .before .before .if1 .taken) in
+    let leaf = Stacks.leaf-pending (c .before .before .before .before .before .before .before .before .before .loop .inv .0) (omega arith) (rayPasses (c .before .before .before .before .before .before .before .before .before .before .before .before .before .before .before .before .before .args .ray .direction) (c .before .before .before .before .before .before .before .before .before .before .before .before .before .before .before .before .before .args .ray .origin)) passes (omega (arith, node .1, c .before .before .before .if2 .left)) in
     sym (vote-upTo _ _ ∙ voteOver-cast _ _ ∙ sym (c .before .before .before .before .before .before .before .before .before .loop .inv .1) ∙ rw (leaf, castOver-append, sym (node .0), sym (node .1), sym (c .before .before .leaf-vote .ensures), c .enum-told .given .1) (castOver-none _ _))
 
 loop-less-2 : tie.Need-loop-less-2 Inv-loop μ-loop
@@ -110,8 +107,8 @@ loop-again-2 : tie.Need-loop-again-2 Inv-loop μ-loop
 unfolding startOf countOf rayPasses
 loop-again-2 c =
     let node = c .before .before .before .before .node-at .ensures in
-    let passes = rw (c .before .before .before .before .before .before .before .before .before .before .before .before .before .before .before .before .before .pre .1 .inverse) at (sym (c .before .before .before .before .before .before .hits-node .ensures) ∙ c .before .before .before .before .before .if1 .taken) in
-    let leaf = Stacks.leaf-pending (c .before .before .before .before .before .before .before .before .loop .inv .0) (omega arith) (rayPasses (c .before .before .before .before .before .before .before .before .before .before .before .before .before .before .before .before .before .args .ray .direction) (c .before .before .before .before .before .before .before .before .before .before .before .before .before .before .before .before .before .args .ray .origin)) passes (omega (arith, node .1, c .before .before .if2 .left)) in
+    let passes = rw (c .before .before .before .before .before .before .before .before .before .before .before .before .before .before .before .before .pre .1 .inverse) at (sym (c .before .before .before .before .before .before .hits-node .ensures) ∙ c .before .before .before .before .before .if1 .taken) in
+    let leaf = Stacks.leaf-pending (c .before .before .before .before .before .before .before .before .loop .inv .0) (omega arith) (rayPasses (c .before .before .before .before .before .before .before .before .before .before .before .before .before .before .before .before .args .ray .direction) (c .before .before .before .before .before .before .before .before .before .before .before .before .before .before .before .before .args .ray .origin)) passes (omega (arith, node .1, c .before .before .if2 .left)) in
     (Stacks.after-out (c .before .before .before .before .before .before .before .before .loop .inv .0) (omega arith), sym (rw (leaf, castOver-append, sym (node .0), sym (node .1), sym (c .before .leaf-vote .ensures))) ∙ c .before .before .before .before .before .before .before .before .loop .inv .1)
 
 loop-less-3 : tie.Need-loop-less-3 Inv-loop μ-loop
@@ -120,7 +117,7 @@ loop-less-3 c = Stacks.out-less (c .before .before .before .loop .inv .0) (omega
 loop-again-3 : tie.Need-loop-again-3 Inv-loop μ-loop
 unfolding rayPasses
 loop-again-3 c =
-    let passes = rw (c .before .before .before .before .before .before .before .before .before .before .before .before .pre .1 .inverse) at (sym (c .before .hits-node .ensures) ∙ c .if1 .left) in
+    let passes = rw (c .before .before .before .before .before .before .before .before .before .before .before .pre .1 .inverse) at (sym (c .before .hits-node .ensures) ∙ c .if1 .left) in
     (Stacks.after-out (c .before .before .before .loop .inv .0) (omega arith), sym (ap (castOver _ _) (Stacks.out-pending (c .before .before .before .loop .inv .0) (omega arith) _ passes)) ∙ c .before .before .before .loop .inv .1)
 
 returns-2 : tie.Need-returns-2 Inv-loop μ-loop
@@ -136,7 +133,6 @@ ray-walk-spec =
     Inv-loop
     μ-loop
     start-height-requires
-    near-places-requires
     loop-holds
     sub-k
     mul-n
