@@ -101,9 +101,7 @@ pub fn is_closed(faces: usize, keys: &[u64]) -> bool
 
 // Writes the keys of all edges in ascending order, and says whether the mesh is closed.
 pub fn keys_closed(corners: &[u32], ends: &[u32], work: &mut [u64]) -> bool
-    requires { ⌜ endsFit 0 (length (now corners)) (now ends) ≡ true ⌝ }
-    requires { ⌜ Below 65536 (now corners) ⌝ }
-    requires { ⌜ length (now corners) ≤ length (now work) ⌝ }
+    requires { ⌜ (endsFit 0 (length (now corners)) (now ends) ≡ true) × Below 65536 (now corners) × (length (now corners) ≤ length (now work)) ⌝ }
     ensures { λ r. ⌜ (r ≡ closed (faces (now (corners .entry)) (now (ends .entry)))) × (now (work .exit) ≡ over (sorted (edgeKeys (faces (now (corners .entry)) (now (ends .entry))))) (now (work .entry))) ⌝ }
 {
     let n = corners.len();

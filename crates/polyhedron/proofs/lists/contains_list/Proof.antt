@@ -41,7 +41,7 @@ keys-closed-requires : tie.Need-keys-closed-requires
 keys-closed-requires c κs =
     let check = c .before .before .before .before .before .before .before .before .check-tree .ensures in
     let passed = c .before .before .before .before .enum-told .given .1 in
-    (accepted-list check passed .lengths .fit, (accepted-below (accepted-list check passed), room-left check passed))
+    (accepted-list check passed .lengths .fit, accepted-below (accepted-list check passed), room-left check passed)
 
 prepare-requires : tie.Need-prepare-requires
 prepare-requires c κs = search needs
