@@ -17,9 +17,8 @@ use Rattle.refusal.specs.declared.Refusal.{Refusal}
 use Rattle.refusal.specs.declared.Refusal.the-variants as Refusals
 use Rattle.refusal.specs.declared.Verdict.{Verdict}
 use Rattle.refusal.specs.declared.Verdict.the-variants as Verdicts
-use Rattle.refusal.specs.Verdicts.{ask, written, ask-passed, then-passed}
+use Rattle.refusal.specs.Verdicts.{ask, written, ask-passed, then-passed, both}
 use Rattle.mesh.specs.Questions.{askMesh}
-use Rattle.mesh.specs.Walks.{both}
 use Rattle.mesh.specs.Triangles as Triangles
 use Rattle.mesh.specs.Accepted.{Accepted, accepted}
 use Rattle.mesh.specs.Mesh.{Mesh, triangleCount, numbers}

@@ -9,11 +9,11 @@ use mathlib.Core.List.{List, [], _∷_, _++_}
 use lib.Dec.{eqb}
 use lib.ListN.{length, take, drop, length-take, length-drop, length-append, take-append-drop}
 use borrow.Author.Tests.{le-leb, lt-leb}
+use Rattle.refusal.specs.Verdicts.{both}
 use Rattle.keys.specs.Sorting.{count, All}
 use Rattle.keys.specs.SortingTheorems.{le-or-lt, all-sortedBy, sortedBy-sum, length-sortedBy}
 use Rattle.keys.specs.Permutations.{all-append}
 use Rattle.math.specs.declared.BoundingBox.{BoundingBox}
-use Rattle.mesh.specs.Walks.{both}
 use Rattle.mesh.specs.Mesh.{Mesh, ownBox}
 use Rattle.math.specs.Boxes.{encloses, join}
 use Rattle.bvh.specs.Builder.{byCenter, leftItems, rightItems, joinAll, nodeBox, BoxTree, leafNode, innerNode, build, treeOver, size, boxList, itemList, nodeList}

@@ -11,11 +11,12 @@ use lib.Dec.{leb}
 use lib.ListN.{length, getD, set, take, drop, length-append, length-take, length-drop, drop-of-length-le}
 use lib.Seq.{drop-cons}
 use borrow.Author.Tests.{leb-true}
+use Rattle.refusal.specs.Verdicts.{both}
 use Rattle.lent.specs.Over.{over, over-nothing, over-take, over-on, length-over}
 use Rattle.mesh.specs.Faces.{faces, facesFrom}
 use Rattle.mesh.specs.Questions.{endsFit}
 use Rattle.edges.specs.Edges.{edgeKey, keysFrom, faceKeys, edgeKeys}
-use Rattle.mesh.specs.Walks.{both, endsFit-le}
+use Rattle.mesh.specs.Walks.{endsFit-le}
 use Rattle.edges.specs.EdgeLaws.{keysFrom-at, length-keysFrom, length-faceKeys}
 
 -- ---- corner by corner

@@ -15,13 +15,13 @@ use Rattle.refusal.specs.declared.Refusal.{Refusal}
 use Rattle.refusal.specs.declared.Verdict.{Verdict}
 use Rattle.refusal.specs.declared.Verdict.the-variants.{Passed, Refused}
 use Rattle.refusal.specs.declared.Refusal.the-variants.{ShortFace, CornerOut, NotFinite}
-use Rattle.refusal.specs.Verdicts.{ask, ask-passed, then-passed}
+use Rattle.refusal.specs.Verdicts.{ask, ask-passed, then-passed, both}
 use Rattle.mesh.specs.Faces.{faces, facesFrom}
 use Rattle.mesh.specs.Triangles.{fanFrom, fan, fans, triangles}
 use Rattle.mesh.specs.declared.Counts.{Counts}
 use Rattle.mesh.specs.declared.Asked.the-variants as Answers
 use Rattle.mesh.specs.Questions.{wholeVertices, endsFit, facesFit, askLengths, allBelow, askFace, askFaces, askFinite, askParts, askMesh, Lengths, counts, answered, meshAsked}
-use Rattle.mesh.specs.Walks.{both, endsFit-le}
+use Rattle.mesh.specs.Walks.{endsFit-le}
 
 -- each face has three corners or more, the first beginning at place `start`
 abbrev pub Wide : ℕ → List ℕ → Type 0

@@ -7,6 +7,7 @@ use mathlib.Core.List.{List}
 use lib.Ieee.{Float, inf, nan, le}
 use lib.Ieee.Bits.{is-true}
 use lib.ListN.{getD}
+use Rattle.refusal.specs.Verdicts.{both}
 use Rattle.float.specs.Arithmetic.{_⊕_, _⊗_, half}
 use Rattle.float.specs.Order.{Number, finite-number, le-trans, min-le-left, le-max-left, min-number, max-number, min-top, max-bottom}
 use Rattle.float.specs.Rules as Rules
@@ -17,7 +18,6 @@ use Rattle.math.specs.Vectors.{component}
 use Rattle.math.specs.Boxes.{box, empty, isEmpty, include, center}
 use Rattle.mesh.specs.declared.Triangle.{Triangle}
 use Rattle.mesh.specs.Boxes.{vertex, triangleBox, triangleCenter, Finite}
-use Rattle.mesh.specs.Walks.{both}
 
 -- the lowest of three numbers, as the box of three points finds it
 abbrev pub lowest : Float → Float → Float → Float

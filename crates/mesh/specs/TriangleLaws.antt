@@ -10,11 +10,12 @@ use lib.Dec.{eqb, leb}
 use lib.ListN.{length, getD, take, drop, length-take, length-drop, List·getD-append}
 use lib.Seq.{drop-cons, getD-take, getD-drop, getD-append-add}
 use borrow.Author.Tests.{eqb-true}
+use Rattle.refusal.specs.Verdicts.{both}
 use Rattle.mesh.specs.declared.Triangle.{Triangle}
 use Rattle.mesh.specs.Faces.{faces, facesFrom}
 use Rattle.mesh.specs.Triangles.{triangle, fanFrom, fan, fans, triangles, startFrom, equalFaces, sides, InFace, Placed}
 use Rattle.mesh.specs.Questions.{endsFit}
-use Rattle.mesh.specs.Walks.{both, endsFit-le}
+use Rattle.mesh.specs.Walks.{endsFit-le}
 use Rattle.mesh.specs.Accepted.{Wide, Fanned, length-fan, length-fans}
 
 -- triangle k of a fan from corner a

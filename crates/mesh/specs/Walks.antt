@@ -3,7 +3,7 @@ use Prim.Native.Nat.{ℕ, suc, _+_, _-_, _*_, _/_, _≤_, _<_}
 use native.Mathlib.Numerals.{add-one}
 use native.Mathlib.Omega.{arith}
 use mathlib.Core.Path.{_≡_, refl, sym, _∙_}
-use mathlib.Core.Bool.{Bool, true, false, cond, _&&_, true≢false}
+use mathlib.Core.Bool.{Bool, true, false, cond, _&&_}
 use mathlib.Core.List.{List, [], _∷_}
 use lib.Dec.{leb, ltb}
 use lib.Ieee.{Float}
@@ -14,7 +14,7 @@ use Rattle.math.specs.declared.Vec3.{Vec3}
 use Rattle.math.specs.Vectors as Vectors
 use Rattle.refusal.specs.declared.Refusal.{Refusal}
 use Rattle.refusal.specs.declared.Verdict.the-variants.{Passed, Refused}
-use Rattle.refusal.specs.Verdicts.{ask, then}
+use Rattle.refusal.specs.Verdicts.{ask, then, both}
 use Rattle.mesh.specs.Faces.{facesFrom}
 use Rattle.mesh.specs.Questions.{endsFit, allBelow, askFace, askFaces, askFinite}
 
@@ -25,11 +25,6 @@ ltb-suc a b = go (ltb a b) refl
     go : (t : Bool) → ltb a b ≡ t → ltb (1 + a) (suc b) ≡ t
     go true e = let h = ltb-true a b e in lt-ltb (1 + a) (suc b) (omega arith)
     go false e = let h = ltb-false a b e in le-ltb (1 + a) (suc b) (omega arith)
-
--- of two tests that hold together each holds
-pub both : (a b : Bool) → a && b ≡ true → (a ≡ true) × (b ≡ true)
-both true b e = (refl, e)
-both false b e = absurd (true≢false (sym e))
 
 -- from end i on: it does not fall, and so on
 pub endsFit-next : (before corners : ℕ) (ends : List ℕ) (i : ℕ) → i < length ends → endsFit before corners (drop i ends) ≡ (leb before (getD ends i 0) && endsFit (getD ends i 0) corners (drop (i + 1) ends))

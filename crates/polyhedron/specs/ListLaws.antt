@@ -15,11 +15,10 @@ use Rattle.refusal.specs.declared.Refusal.{Refusal}
 use Rattle.refusal.specs.declared.Refusal.the-variants as Refusals
 use Rattle.refusal.specs.declared.Verdict.{Verdict}
 use Rattle.refusal.specs.declared.Verdict.the-variants.{Passed, Refused}
-use Rattle.refusal.specs.Verdicts.{written, ask-passed, then-passed}
+use Rattle.refusal.specs.Verdicts.{written, ask-passed, then-passed, both}
 use Rattle.math.specs.declared.Vec3.{Vec3}
 use Rattle.math.specs.Vectors.{vec, at, points, isFinite, length-points, getD-points}
 use Rattle.mesh.specs.Faces.{faces}
-use Rattle.mesh.specs.Walks.{both}
 use Rattle.mesh.specs.Accepted.{Accepted, finite-of}
 use Rattle.mesh.specs.Mesh.{Mesh}
 use Rattle.edges.specs.Edges.{edgeKeys, closed}

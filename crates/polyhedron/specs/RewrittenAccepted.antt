@@ -13,12 +13,11 @@ use borrow.Author.Tests.{eq-eqb, le-leb, ltb-true, lt-ltb}
 use Rattle.lent.specs.Reordered.{Reordered}
 use Rattle.lent.specs.ReorderedLaws.{reordered-sum, length-reordered, Every, every-reordered, every-mapped}
 use Rattle.refusal.specs.declared.Verdict.the-variants.{Passed}
-use Rattle.refusal.specs.Verdicts.{ask-passed, then-passed}
+use Rattle.refusal.specs.Verdicts.{ask-passed, then-passed, both}
 use Rattle.math.specs.declared.Vec3.{Vec3}
 use Rattle.math.specs.Vectors.{points, isFinite}
 use Rattle.mesh.specs.Faces.{faces, length-faces}
 use Rattle.mesh.specs.Questions.{wholeVertices, endsFit, facesFit, askLengths, allBelow, askFace, askFaces, askFinite, askVertices, askParts, askMesh}
-use Rattle.mesh.specs.Walks.{both}
 use Rattle.mesh.specs.Accepted.{Accepted, accepted}
 use Rattle.mesh.specs.Mesh.{Mesh}
 use Rattle.edges.specs.EdgeLaws.{flatten-faces}

@@ -6,6 +6,7 @@ use mathlib.Core.Path.{_≡_, refl}
 use mathlib.Core.Bool.{Bool, true, _&&_}
 use mathlib.Core.List.{List, [], _∷_, flatten}
 use lib.Ieee.{Float, binary64, ofBits, fits}
+use Rattle.refusal.specs.Verdicts.{both}
 use Rattle.float.specs.Arithmetic.{zero, one}
 use Rattle.float.specs.Rules as Rules
 use Rattle.lent.specs.ReorderedLaws.{reordered-exchange}
@@ -13,7 +14,6 @@ use Rattle.math.specs.Vectors as Vectors
 use Rattle.mesh.specs.Faces.{facesFrom, faces}
 use Rattle.mesh.specs.Boxes.{vertex}
 use Rattle.mesh.specs.Questions.{wholeVertices, endsFit, facesFit, askLengths, allBelow, askFace, askFaces, askFinite, askParts, askMesh}
-use Rattle.mesh.specs.Walks.{both}
 use Rattle.mesh.specs.Mesh.{Mesh, mesh}
 use Rattle.polyhedron.specs.Rewritten.{endsOf, Rewritten}
 use Rattle.polyhedron.specs.Demand3.{Accepts, F64s}

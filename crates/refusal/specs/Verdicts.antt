@@ -1,7 +1,7 @@
 -- Questions asked in their order: the first that says no decides. Definitions, and what a passed question says.
 use Prim.Native.Nat.{ℕ}
-use mathlib.Core.Path.{_≡_, refl}
-use mathlib.Core.Bool.{Bool, true, false, cond}
+use mathlib.Core.Path.{_≡_, refl, sym}
+use mathlib.Core.Bool.{Bool, true, false, cond, _&&_, true≢false}
 use mathlib.Core.List.{List, []}
 use Rattle.refusal.specs.declared.Refusal.{Refusal}
 use Rattle.refusal.specs.declared.Verdict.{Verdict}
@@ -36,3 +36,8 @@ ask-passed false refusal e = cc
 pub then-passed : (first second : Verdict) → then first second ≡ Passed → (first ≡ Passed) × (second ≡ Passed)
 then-passed Passed second e = (refl, e)
 then-passed (Refused refusal) second e = (e, cc)
+
+-- of two tests that hold together each holds
+pub both : (a b : Bool) → a && b ≡ true → (a ≡ true) × (b ≡ true)
+both true b e = (refl, e)
+both false b e = absurd (true≢false (sym e))

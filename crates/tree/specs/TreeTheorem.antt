@@ -10,9 +10,9 @@ use mathlib.Core.List.{List}
 use lib.Dec.{eqb, leb, ltb}
 use lib.ListN.{length}
 use borrow.Author.Tests.{eqb-true, eqb-false, eq-eqb, ne-eqb, leb-true, le-leb, lt-ltb}
+use Rattle.refusal.specs.Verdicts.{both}
 use Rattle.keys.specs.Sorting.{count}
 use Rattle.math.specs.declared.BoundingBox.{BoundingBox}
-use Rattle.mesh.specs.Walks.{both}
 use Rattle.mesh.specs.Mesh.{Mesh, triangleCount, ownBox}
 use Rattle.math.specs.Boxes.{encloses, join}
 use Rattle.tree.specs.declared.check.Walked.{Walked}

@@ -16,9 +16,8 @@ use Rattle.math.specs.Vectors.{isFinite}
 use Rattle.refusal.specs.declared.Refusal.{Refusal}
 use Rattle.refusal.specs.declared.Verdict.{Verdict}
 use Rattle.refusal.specs.declared.Verdict.the-variants.{Passed, Refused}
-use Rattle.refusal.specs.Verdicts.{ask-passed, then-passed}
+use Rattle.refusal.specs.Verdicts.{ask-passed, then-passed, both}
 use Rattle.mesh.specs.Questions.{askFinite, askVertices}
-use Rattle.mesh.specs.Walks.{both}
 use Rattle.weld.specs.declared.Welded.the-variants as Answers
 use Rattle.weld.specs.Welding.{same, vertices, faces}
 use Rattle.weld.specs.Questions.{wholeTriangles, askCorners, room, askTriangles, weldAnswer}

@@ -10,9 +10,9 @@ use lib.ListN.{length, drop}
 use lib.Seq.{drop-drop}
 use borrow.Author.Needs.{needs}
 use borrow.Author.Tests.{eqb-true, not-true, not-false}
+use Rattle.refusal.specs.Verdicts.{both}
 use Rattle.mesh.specs.Accepted.{Accepted}
 use Rattle.mesh.specs.Triangles.{sides}
-use Rattle.mesh.specs.Walks.{both}
 use Rattle.mesh.specs.Mesh.{Mesh, mesh, triangleCount}
 use Rattle.tree.specs.Tree.{Tree, tree, nodeCount, itemAt}
 use Rattle.tree.specs.TreeTest.{Lent, onceBelow, rootTest, treeTest, triangleCount-accepted}
