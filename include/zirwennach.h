@@ -10,7 +10,11 @@ extern "C" {
 #endif
 
 /* A list is a pointer and its length in numbers. A length of 0 may come with any pointer. Nothing that
-   is lent as const is changed.
+   is lent as const is changed. Nothing is promised of a call whose buffers overlap, where one of them is
+   written to.
+
+   Each function but csx_root returns a number below 1,000,000, or a refusal: the number of the question that
+   turned the call down times 1,000,000, plus a place below 1,000,000.
 
    Every shape question returns 0 if the point x, y, z lies outside, 1 if it lies inside, or a refusal:
    its number times 1,000,000 plus a place. The questions are asked in this order:
@@ -141,6 +145,21 @@ uint64_t csx_contains_list(const double *coords, size_t coords_length, const uin
                            size_t nodes_length, const uint32_t *items, size_t items_length,
                            uint64_t *work, size_t work_length, const double *points,
                            size_t points_length, uint8_t *answers, size_t answers_length);
+
+/* Column text in, a listing out. text is lines of exactly 36 bytes: a kind of width 2 and three whole numbers of
+   width 11, right-justified with blanks before them, and a line feed, the last line's included. Kinds: 1 a
+   vertex and 3 a point, in nanometres within +-9,999,999,999; 2 a triangle by vertex numbers from 0 to 511. All
+   1s come first, then 2s, then 3s; at most 1,024 lines and 512 of a kind. A minus stands against its digit;
+   there are no leading zeros and no minus zero.
+   Written is a listing, lines of 10 bytes: a header with two zeros (widths 3 and 6), then for each point its
+   number from 0 (width 6) and its answer (width 3): 0 outside, 1 inside, 2 undecided. The two buffers must not
+   overlap. What lies past the listing is unchanged. Returns how many bytes the listing has, or:
+     12,000,000 + line   this line, counted from 1, is not as described, or the first over a limit or of a kind
+                         out of order
+     1,000,000 to 5,000,000 + vertex   as csx_build_tree says of the mesh; with such a text only 4 can come up
+     6,000,000           listing is shorter than the whole listing: 10 bytes and 10 a point, 5,130 at most
+   A refused call writes nothing. */
+uint64_t csx_point_list(const uint8_t *text, size_t text_length, uint8_t *listing, size_t listing_length);
 
 /* The square root of x, rounded to the nearest double: IEEE 754's. NaN of NaN and of every negative
    number, a zero of the same zero. */

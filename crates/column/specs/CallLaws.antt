@@ -208,3 +208,15 @@ module _ (text : List ℕ) (counts : Counts) (good : judged text ≡ Good counts
 pub refused-line : (text listing₀ : List ℕ) (line : ℕ) → judged text ≡ BadLine line → Lists text listing₀ (Answers.Refused (Refusals.Line line)) listing₀
 unfolding verdict columnVerdict columnAnswer columnListing listed written
 refused-line text listing₀ line e = record { answer = rw e; listing = rw e (sym (over-nothing listing₀)) }
+
+-- ---- what an answer says of the verdict
+
+pub listed-refused : (v : Verdict) (bytes : ℕ) (refusal : Refusal) → listed v bytes ≡ Answers.Refused refusal → v ≡ Refused refusal
+unfolding listed
+listed-refused Passed bytes refusal e = cc
+listed-refused (Refused other) bytes refusal e = cc
+
+pub listed-bytes : (v : Verdict) (bytes n : ℕ) → listed v bytes ≡ Answers.Bytes n → (v ≡ Passed) × (n ≡ bytes)
+unfolding listed
+listed-bytes Passed bytes n e = (refl, cc)
+listed-bytes (Refused other) bytes n e = (cc, cc)

@@ -2,3 +2,4 @@
 pub mod Welding
 pub mod Trees
 pub mod Lists
+pub mod Columns

@@ -1,5 +1,6 @@
 // The engine's C functions, as include/zirwennach.h declares them. A slice is a pointer and a length. A
 // refusal is returned as its number × 1,000,000 plus its place.
+pub mod columns;
 pub mod lists;
 pub mod meshes;
 pub mod shapes;

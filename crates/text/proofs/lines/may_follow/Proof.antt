@@ -10,7 +10,7 @@ lines-in-requires : tie.Need-lines-in-requires
 lines-in-requires c κs = search needs
 
 returns : tie.Need-returns
-returns c = unfold mayFollow in rw (← c .before .lines-in .ensures, le-ltb _ _ (c .if1 .taken))
+returns c = unfold mayFollow in rw (← c .before .lines-in .ensures, le-ltb (c .before .lines-in .result) 1024 (omega (arith, c .if1 .taken)))
 
 enum-told : tie.Need-enum-told
 enum-told c = search needs
@@ -30,19 +30,19 @@ enum-told-4 c = search needs
 
 returns-2 : tie.Need-returns-2
 returns-2 c =
-    unfold mayFollow fits in rw (← c .before .before .before .lines-in .ensures, lt-ltb _ _ (c .before .before .if1 .left), c .enum-told .given .1)
+    unfold mayFollow fits in rw (← c .before .before .before .lines-in .ensures, lt-ltb (c .before .before .before .lines-in .result) 1024 (omega (arith, c .before .before .if1 .left)), c .enum-told .given .1)
 
 returns-3 : tie.Need-returns-3
 returns-3 c =
-    unfold mayFollow fits in rw (← c .before .before .before .before .before .lines-in .ensures, lt-ltb _ _ (c .before .before .before .before .if1 .left), c .before .before .enum-told2 .given .1)
+    unfold mayFollow fits in rw (← c .before .before .before .before .before .lines-in .ensures, lt-ltb (c .before .before .before .before .before .lines-in .result) 1024 (omega (arith, c .before .before .before .before .if1 .left)), c .before .before .enum-told2 .given .1)
 
 returns-4 : tie.Need-returns-4
 returns-4 c =
-    unfold mayFollow fits in rw (← c .before .before .before .before .before .lines-in .ensures, lt-ltb _ _ (c .before .before .before .before .if1 .left), c .before .before .enum-told3 .given .1)
+    unfold mayFollow fits in rw (← c .before .before .before .before .before .lines-in .ensures, lt-ltb (c .before .before .before .before .before .lines-in .result) 1024 (omega (arith, c .before .before .before .before .if1 .left)), c .before .before .enum-told3 .given .1)
 
 returns-5 : tie.Need-returns-5
 returns-5 c =
-    unfold mayFollow fits in rw (← c .before .before .before .before .lines-in .ensures, lt-ltb _ _ (c .before .before .before .if1 .left), c .before .enum-told4 .given .1)
+    unfold mayFollow fits in rw (← c .before .before .before .before .lines-in .ensures, lt-ltb (c .before .before .before .before .lines-in .result) 1024 (omega (arith, c .before .before .before .if1 .left)), c .before .enum-told4 .given .1)
 
 pub may-follow-spec : {M : Type 1} → statement M
 may-follow-spec =

@@ -1,0 +1,3 @@
+-- The definitions of the program `point_list`.
+pub mod Input
+pub mod Printed
