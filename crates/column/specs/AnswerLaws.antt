@@ -1,5 +1,5 @@
 -- What leads from the builder's and the list answer's promises to the answers of a small mesh: neither refuses, and the tree is the builder rule's.
-use Prim.Native.Nat.{ℕ, _+_, _-_, _*_, _/_, _≤_, _<_}
+use Prim.Native.Nat.{ℕ, _*_, _≤_}
 use native.Mathlib.Omega.{arith}
 use mathlib.Core.Path.{_≡_, sym, _∙_}
 use mathlib.Core.List.{List}
@@ -11,12 +11,12 @@ use Rattle.refusal.specs.declared.Refusal.{Refusal}
 use Rattle.refusal.specs.declared.Verdict.{Verdict}
 use Rattle.refusal.specs.declared.Verdict.the-variants.{Passed}
 use Rattle.refusal.specs.Verdicts.{written}
-use Rattle.mesh.specs.Accepted.{Accepted, accepted}
+use Rattle.mesh.specs.Accepted.{accepted}
 use Rattle.mesh.specs.Mesh.{Mesh, triangleCount}
-use Rattle.tree.specs.Tree.{Tree, tree, nodeCount}
+use Rattle.tree.specs.Tree.{tree, nodeCount}
 use Rattle.tree.specs.TreeRules.{TreeRules}
 use Rattle.tree.specs.TreeTest.{triangleCount-accepted}
-use Rattle.tree.specs.Check.{askRoom, checkAnswer}
+use Rattle.tree.specs.Check.{askRoom}
 use Rattle.bvh.specs.declared.build.Built.{Built}
 use Rattle.bvh.specs.declared.build.Built.the-variants.{Refused, Nodes}
 use Rattle.bvh.specs.Build as Build
@@ -26,7 +26,7 @@ use Rattle.bvh.specs.BuilderSize.{nodeCount-le}
 use Rattle.polyhedron.specs.Lists.{askList, listVerdict, answersTo, listAnswer, Contains}
 use Rattle.polyhedron.specs.ListLaws.{length-answersTo, list-passed}
 use Rattle.polyhedron.specs.Demand3Theorem.{demand3}
-use Rattle.column.specs.Sections.{Few, Small, Scratch}
+use Rattle.column.specs.Sections.{Small, Scratch}
 
 module _ {m : Mesh} {points : List Float} {places : ℕ} (small : Small m points places) where
   -- a triangle a face, and few of them

@@ -6,7 +6,7 @@ use mathlib.Core.Path.{_≡_, refl, sym, _∙_}
 use mathlib.Core.Bool.{Bool, true}
 use mathlib.Core.List.{List}
 use lib.Ieee.{Float}
-use lib.ListN.{length, take, drop, length-take, length-drop}
+use lib.ListN.{length, take, drop, length-drop}
 use lib.Seq.{take-all, length-take-le}
 use borrow.Author.Tests.{le-leb, lt-leb, eq-eqb}
 use Rattle.lent.specs.Over.{over, over-nothing, take-over, length-over}
@@ -25,7 +25,7 @@ use Rattle.text.specs.declared.lines.Kind.{Kind}
 use Rattle.text.specs.declared.lines.Kind.the-variants as Kinds
 use Rattle.text.specs.declared.lines.Counts.{Counts}
 use Rattle.text.specs.declared.lines.Judged.the-variants.{BadLine, Good}
-use Rattle.text.specs.Lines.{isCount, isCorner, allThree, kindOf, linesIn, lines, none, judge}
+use Rattle.text.specs.Lines.{isCount, isCorner, allThree, kindOf, linesIn, lines}
 use Rattle.text.specs.LineLaws.{lineAt, length-lines, lines-take, lines-drop, section-line}
 use Rattle.text.specs.Accepted.{Accepted, accepted, isGood, numbersFit, good-line}
 use Rattle.text.specs.Listing.{listingText, listingLength}
@@ -33,7 +33,7 @@ use Rattle.text.specs.ListingLaws.{length-listing}
 use Rattle.column.specs.declared.Listed.{Listed}
 use Rattle.column.specs.declared.Listed.the-variants as Answers
 use Rattle.column.specs.Column.{floatOf, cornerOf, numbersOf, endsFrom, meshOf, pointsOf, askColumn, columnVerdict, columnListing, judged, verdict, columnAnswer, listed, Lists}
-use Rattle.column.specs.Sections.{Whole, Few, Small, ListsAnswers}
+use Rattle.column.specs.Sections.{Whole, Few, ListsAnswers}
 use Rattle.column.specs.NumberLaws.{length-numbers, length-ends, finite-section}
 
 -- ---- `list_answers`
@@ -131,7 +131,8 @@ module _ (text : List ℕ) (counts : Counts) (good : judged text ≡ Good counts
       let all = take-all (length text - 36 * k) (drop (36 * k) text) (omega (arith, length-drop (36 * k) text)) in
       rw (all, lines-drop k text (omega (arith, long)))
 
-  length-points : length (pointsOf counts (lines text)) ≡ 3 * counts .points
+  -- three numbers a point
+  pub length-points : length (pointsOf counts (lines text)) ≡ 3 * counts .points
   unfolding pointsOf
   length-points =
       let k = counts .vertices + counts .triangles in

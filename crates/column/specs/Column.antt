@@ -1,7 +1,7 @@
 -- The column call (document 01, Column text): what the lines of a text become, its questions in their order, and its listing. Definitions only.
-use Prim.Native.Nat.{ℕ, zero, suc, _+_, _*_}
+use Prim.Native.Nat.{ℕ, zero, suc, _+_}
 use mathlib.Core.Path.{_≡_}
-use mathlib.Core.Bool.{Bool, cond}
+use mathlib.Core.Bool.{cond}
 use lib.IntN.{pos}
 use mathlib.Core.List.{List, [], _∷_}
 use lib.Dec.{leb}

@@ -1,16 +1,14 @@
 -- The laws of what the numbers of a text become: the loops that write them, and that floats are the counts unchanged.
-use Prim.Native.Nat.{ℕ, zero, suc, _+_, _-_, _*_, _/_, _^_, _≤_, _<_}
+use Prim.Native.Nat.{ℕ, zero, suc, _+_, _*_, _≤_, _<_}
 use native.Mathlib.Nat.{add-zero, zero-add, suc-add}
-use native.Mathlib.Numerals.{add-one}
 use native.Mathlib.Omega.{arith}
 use mathlib.Core.Path.{_≡_, refl, sym, _∙_}
 use mathlib.Core.Bool.{Bool, true, false, true≢false}
 use mathlib.Core.List.{List, [], _∷_, _++_}
-use lib.IntN.{pos}
-use lib.Ieee.{Float, nan, inf, fin, neg, ofInt, binary64, prec}
+use lib.Ieee.{Float, nan, inf, fin, neg, ofInt, binary64}
 use lib.Ieee.Exact.{HasValue}
 use lib.Ieee.Back.{round-whole}
-use lib.ListN.{length, getD, take, drop, set, length-append, length-take}
+use lib.ListN.{length, take, set}
 use lib.Seq.{length-take-le}
 use borrow.Author.Tests.{leb-true}
 use Rattle.float.specs.Rules.{isFinite}
@@ -27,7 +25,7 @@ use Rattle.text.specs.Lines.{numberAt, lines, isCount, allThree}
 use Rattle.text.specs.LineLaws.{lineAt, lines-next, length-lines, lines-get}
 use Rattle.text.specs.Accepted.{three}
 use Rattle.column.specs.Sections.{Whole}
-use Rattle.column.specs.Column.{floatOf, cornerOf, numbersOf, endsFrom}
+use Rattle.column.specs.Column.{floatOf, numbersOf, endsFrom}
 
 module _ {A : Type 0} (become : Field → A) where
   -- lines one behind the other

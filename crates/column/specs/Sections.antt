@@ -8,7 +8,7 @@ use lib.ListN.{length}
 use Rattle.lent.specs.Over.{over}
 use Rattle.refusal.specs.declared.Verdict.the-variants.{Passed}
 use Rattle.refusal.specs.Verdicts.{written}
-use Rattle.mesh.specs.Mesh.{Mesh, triangleCount}
+use Rattle.mesh.specs.Mesh.{Mesh}
 use Rattle.mesh.specs.Questions.{askMesh}
 use Rattle.polyhedron.specs.Lists.{askList, answersTo}
 use Rattle.text.specs.declared.fields.Field.{Field}

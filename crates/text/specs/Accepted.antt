@@ -1,10 +1,10 @@
 -- What a text has whose lines are all good: whole lines, first the vertices, then the triangles, then the points, within the limits, each with good numbers.
-use Prim.Native.Nat.{ℕ, zero, suc, _+_, _-_, _*_, _/_, _≤_, _<_}
+use Prim.Native.Nat.{ℕ, zero, suc, _+_, _*_, _≤_, _<_}
 use native.Mathlib.Omega.{arith}
 use mathlib.Core.Path.{_≡_, refl, sym, _∙_}
 use mathlib.Core.Bool.{Bool, true, false, cond, _&&_, true≢false}
 use mathlib.Core.List.{List, [], _∷_}
-use lib.Dec.{eqb, leb, ltb}
+use lib.Dec.{eqb, ltb}
 use lib.ListN.{length, getD, take, drop, length-drop, length-take}
 use lib.Seq.{drop-drop}
 use borrow.Author.Tests.{ltb-true, eqb-true}
@@ -17,7 +17,7 @@ use Rattle.text.specs.declared.lines.Judged.{Judged}
 use Rattle.text.specs.declared.lines.Judged.the-variants.{BadLine, Good}
 use Rattle.text.specs.Fields.{fieldOf}
 use Rattle.text.specs.Lines.{lineFeed, numberAt, isCount, isCorner, allThree, kindNamed, ofKind, kindOf, lines, none, linesIn, fits, mayFollow, counted, judge}
-use Rattle.text.specs.LineLaws.{lineAt, lines-nil, judge-next, counted-next}
+use Rattle.text.specs.LineLaws.{lineAt, lines-nil, judge-next}
 
 -- each of three numbers that pass a test together
 pub three : (test : Field → Bool) (line : List ℕ) → allThree test line ≡ true → (test (numberAt 0 line) ≡ true) × (test (numberAt 1 line) ≡ true) × (test (numberAt 2 line) ≡ true)

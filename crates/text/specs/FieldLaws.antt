@@ -4,7 +4,7 @@ use native.Mathlib.Numerals.{add-one}
 use native.Mathlib.Omega.{arith}
 use mathlib.Core.Path.{_≡_, refl, _∙_}
 use mathlib.Core.Bool.{Bool, true, false, cond, _&&_}
-use mathlib.Core.List.{List, [], _∷_, _++_}
+use mathlib.Core.List.{List, _∷_, _++_}
 use lib.Dec.{eqb, leb}
 use lib.ListN.{length, getD, drop, set, replicate, length-set, replicate-append-replicate}
 use lib.Seq.{drop-cons, getD-set-same, drop-set-lt, append-snoc}

@@ -2,7 +2,7 @@
 use Prim.Native.Nat.{ℕ, zero, suc, _+_, _-_, _*_, _/_, _≤_, _<_}
 use native.Mathlib.Omega.{arith}
 use mathlib.Core.Path.{_≡_, refl, sym, _∙_}
-use mathlib.Core.Bool.{Bool, true, false, cond}
+use mathlib.Core.Bool.{true, cond}
 use mathlib.Core.List.{List, [], _∷_, _++_}
 use lib.Dec.{ltb}
 use lib.ListN.{length, getD, take, drop, length-drop, length-append}
@@ -12,7 +12,7 @@ use Rattle.refusal.specs.Verdicts.{both}
 use Rattle.text.specs.declared.lines.Kind.{Kind}
 use Rattle.text.specs.declared.lines.Kind.the-variants as Kinds
 use Rattle.text.specs.declared.lines.Counts.{Counts}
-use Rattle.text.specs.declared.lines.Judged.the-variants.{BadLine, Good}
+use Rattle.text.specs.declared.lines.Judged.the-variants.{BadLine}
 use Rattle.text.specs.Lines.{kindOf, linesOf, lines, linesIn, fits, mayFollow, counted, judge}
 
 -- line i of a text, from 0

@@ -1,7 +1,7 @@
 -- Column text (document 01): which bytes are a good line of which kind, the first bad line by its number, and what an accepted text says. Definitions only.
 use Prim.Native.Nat.{ℕ, zero, suc, _+_, _*_, _/_}
-use mathlib.Core.Bool.{Bool, true, false, not, cond, _&&_}
-use mathlib.Core.List.{List, [], _∷_, map}
+use mathlib.Core.Bool.{Bool, false, not, cond, _&&_}
+use mathlib.Core.List.{List, [], _∷_}
 use lib.Dec.{eqb, leb, ltb}
 use lib.ListN.{length, getD, take, drop}
 use Rattle.text.specs.declared.fields.Field.{Field}

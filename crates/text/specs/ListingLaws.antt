@@ -3,11 +3,11 @@ use Prim.Native.Nat.{ℕ, zero, suc, _+_, _-_, _*_, _/_, _≤_, _<_}
 use native.Mathlib.Omega.{arith}
 use native.Mathlib.Nat.{add-zero, zero-add}
 use native.Mathlib.Numerals.{add-one}
-use mathlib.Core.Path.{_≡_, refl, sym, _∙_}
+use mathlib.Core.Path.{_≡_, refl, _∙_}
 use mathlib.Core.Bool.{Bool, true, false, cond}
 use mathlib.Core.List.{List, [], _∷_, _++_, append-nil, append-assoc}
 use lib.Dec.{eqb}
-use lib.ListN.{length, getD, take, drop, set, replicate, length-append, length-replicate, length-take, drop-of-length-le}
+use lib.ListN.{length, getD, take, drop, set, length-append, length-replicate, length-take, drop-of-length-le}
 use lib.Seq.{take-suc, length-take-le, take-at, drop-at, drop-drop, drop-cons, set-append-seam}
 use Rattle.lent.specs.Over.{over, over-whole, over-on}
 use Rattle.text.specs.Fields.{before, fieldText}

@@ -3,3 +3,4 @@ pub mod Welding
 pub mod Trees
 pub mod Lists
 pub mod Columns
+pub mod ReadBack

@@ -2,7 +2,6 @@
 use native.Mathlib.Omega.{arith}
 use mathlib.Core.Path.{sym, _∙_}
 use lib.ListN.{length}
-use Rattle.lent.specs.Over.{over}
 use Rattle.mesh.specs.Mesh.{mesh}
 use Rattle.mesh.specs.Accepted.{asked-passed, asked-refused}
 use Rattle.polyhedron.specs.ListLaws.{length-answersTo, list-passed}

@@ -3,7 +3,6 @@ use native.Mathlib.Omega.{arith}
 use mathlib.Core.Path.{sym}
 use lib.ListN.{length-append}
 use lib.Seq.{length-take-le}
-use Rattle.point_list.specs.Input.{Within}
 use borrow.Author.Needs.{needs}
 use Rattle.point_list.proofs.main.Statement.{statement}
 use Rattle.point_list.proofs.main.Tie as tie

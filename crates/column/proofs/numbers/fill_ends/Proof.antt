@@ -1,7 +1,7 @@
 -- `fill_ends` meets its contract: after i rounds the ends of the first i triangles stand in front.
 use Prim.Native.Nat.{_-_, _≤_}
 use native.Mathlib.Omega.{arith}
-use mathlib.Core.Path.{_≡_, refl, sym, _∙_}
+use mathlib.Core.Path.{_≡_, refl, sym}
 use lib.ListN.{length, length-set}
 use borrow.Author.Needs.{needs}
 use Rattle.lent.specs.Over.{over, over-nothing}

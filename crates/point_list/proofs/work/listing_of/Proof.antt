@@ -1,9 +1,8 @@
 -- `listing_of` meets its contract, by cases of what the call answers.
-use Prim.Native.Nat.{ℕ}
 use native.Mathlib.Omega.{arith}
-use mathlib.Core.Path.{_≡_, refl, sym, _∙_}
+use mathlib.Core.Path.{sym, _∙_}
 use borrow.Author.Tests.{le-leb, lt-leb}
-use Rattle.lent.specs.Over.{over, over-nothing}
+use Rattle.lent.specs.Over.{over-nothing}
 use Rattle.refusal.specs.Verdicts.{written}
 use Rattle.text.specs.Listing.{header}
 use Rattle.text.specs.ListingLaws.{length-line}

@@ -1,5 +1,5 @@
 -- `write_field` meets its contract. The invariant: what is left of the number, in front of the bytes from i on, is the field. The measure is i.
-use Prim.Native.Nat.{_+_, _-_, _/_, _%_, _≤_, _<_}
+use Prim.Native.Nat.{_+_, _-_, _/_, _%_, _≤_}
 use native.Mathlib.Omega.{arith}
 use mathlib.Core.Path.{_≡_, refl, sym, _∙_}
 use mathlib.Core.Bool.{false}

@@ -3,10 +3,6 @@ use Rattle.text.specs.Lines.{allThree}
 use borrow.Author.Needs.{needs}
 use Rattle.text.proofs.lines.are_corners.Statement.{statement}
 use Rattle.text.proofs.lines.are_corners.Tie as tie
-use Rattle.text.proofs.lines.are_corners.Reads as reads
-use Rattle.text.proofs.lines.are_corners.Lts as lts
-use Rattle.text.proofs.lines.is_corner.Reads as is-corner-reads
-use Rattle.text.proofs.lines.number_at.Reads as number-at-reads
 
 number-at-requires : tie.Need-number-at-requires
 number-at-requires c κs = search needs

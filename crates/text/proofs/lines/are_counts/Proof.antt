@@ -3,10 +3,6 @@ use Rattle.text.specs.Lines.{allThree}
 use borrow.Author.Needs.{needs}
 use Rattle.text.proofs.lines.are_counts.Statement.{statement}
 use Rattle.text.proofs.lines.are_counts.Tie as tie
-use Rattle.text.proofs.lines.are_counts.Reads as reads
-use Rattle.text.proofs.lines.are_counts.Lts as lts
-use Rattle.text.proofs.lines.is_count.Reads as is-count-reads
-use Rattle.text.proofs.lines.number_at.Reads as number-at-reads
 
 number-at-requires : tie.Need-number-at-requires
 number-at-requires c κs = search needs

@@ -4,8 +4,6 @@ use Rattle.text.specs.Lines.{linesIn, counted}
 use borrow.Author.Needs.{needs}
 use Rattle.text.proofs.lines.counted.Statement.{statement}
 use Rattle.text.proofs.lines.counted.Tie as tie
-use Rattle.text.proofs.lines.counted.Reads as reads
-use Rattle.text.proofs.lines.counted.Lts as lts
 
 enum-told : tie.Need-enum-told
 enum-told c = search needs

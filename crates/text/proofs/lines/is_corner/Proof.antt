@@ -3,8 +3,6 @@ use Rattle.text.specs.Lines.{isCorner}
 use borrow.Author.Needs.{needs}
 use Rattle.text.proofs.lines.is_corner.Statement.{statement}
 use Rattle.text.proofs.lines.is_corner.Tie as tie
-use Rattle.text.proofs.lines.is_corner.Reads as reads
-use Rattle.text.proofs.lines.is_corner.Lts as lts
 
 enum-told : tie.Need-enum-told
 enum-told c = search needs

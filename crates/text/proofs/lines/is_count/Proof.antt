@@ -3,8 +3,6 @@ use Rattle.text.specs.Lines.{isCount}
 use borrow.Author.Needs.{needs}
 use Rattle.text.proofs.lines.is_count.Statement.{statement}
 use Rattle.text.proofs.lines.is_count.Tie as tie
-use Rattle.text.proofs.lines.is_count.Reads as reads
-use Rattle.text.proofs.lines.is_count.Lts as lts
 
 enum-told : tie.Need-enum-told
 enum-told c = search needs

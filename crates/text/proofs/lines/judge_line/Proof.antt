@@ -6,12 +6,6 @@ use Rattle.text.specs.Lines.{kindOf, ofKind}
 use borrow.Author.Needs.{needs}
 use Rattle.text.proofs.lines.judge_line.Statement.{statement}
 use Rattle.text.proofs.lines.judge_line.Tie as tie
-use Rattle.text.proofs.lines.judge_line.Reads as reads
-use Rattle.text.proofs.lines.judge_line.Lts as lts
-use Rattle.text.proofs.fields.read_field.Reads as read-field-reads
-use Rattle.text.proofs.lines.are_corners.Reads as are-corners-reads
-use Rattle.text.proofs.lines.are_counts.Reads as are-counts-reads
-use Rattle.text.proofs.lines.kind_named.Reads as kind-named-reads
 
 returns : tie.Need-returns
 returns c =

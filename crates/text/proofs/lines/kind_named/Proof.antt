@@ -4,8 +4,6 @@ use Rattle.text.specs.Lines.{kindNamed}
 use borrow.Author.Needs.{needs}
 use Rattle.text.proofs.lines.kind_named.Statement.{statement}
 use Rattle.text.proofs.lines.kind_named.Tie as tie
-use Rattle.text.proofs.lines.kind_named.Reads as reads
-use Rattle.text.proofs.lines.kind_named.Lts as lts
 
 enum-told : tie.Need-enum-told
 enum-told c = search needs

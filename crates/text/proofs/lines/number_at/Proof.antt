@@ -6,9 +6,6 @@ use mathlib.Core.Path.{_≡_}
 use borrow.Author.Needs.{needs}
 use Rattle.text.proofs.lines.number_at.Statement.{statement}
 use Rattle.text.proofs.lines.number_at.Tie as tie
-use Rattle.text.proofs.lines.number_at.Reads as reads
-use Rattle.text.proofs.lines.number_at.Lts as lts
-use Rattle.text.proofs.fields.read_field.Reads as read-field-reads
 
 mul-start : tie.Need-mul-start
 mul-start c = search needs

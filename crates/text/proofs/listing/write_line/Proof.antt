@@ -1,10 +1,10 @@
 -- `write_line` meets its contract: the two calls write the fields, the store the line feed.
 use Prim.Native.Nat.{_-_}
 use native.Mathlib.Omega.{arith}
-use mathlib.Core.Path.{_≡_, sym, _∙_}
+use mathlib.Core.Path.{_≡_}
 use mathlib.Core.Bool.{false}
 use mathlib.Core.List.{_++_}
-use lib.ListN.{length, take, drop, length-append, length-take, length-drop, length-set}
+use lib.ListN.{length, take, drop, length-append, length-take, length-drop}
 use lib.Seq.{length-take-le}
 use Rattle.text.specs.Fields.{fieldText}
 use Rattle.text.specs.ListingLaws.{length-field, length-line, line-written}

@@ -1,8 +1,8 @@
 -- `write_rows` meets its contract: after i rounds the first i rows stand in front.
 use Prim.Native.Nat.{_+_, _-_, _*_, _≤_}
 use native.Mathlib.Omega.{arith}
-use mathlib.Core.Path.{_≡_, refl, sym, _∙_}
-use lib.ListN.{length, take, drop, getD, length-take, length-drop}
+use mathlib.Core.Path.{_≡_, refl, sym}
+use lib.ListN.{length, take, length-take, length-drop}
 use lib.Seq.{take-all, length-take-le}
 use borrow.Author.Needs.{needs}
 use Rattle.lent.specs.Over.{over, over-nothing, length-over}
