@@ -1,9 +1,13 @@
-# run: the main job. test: the gate. compare: the large comparison. bench: ratios of speed.
-.PHONY: run test compare bench archives
+# run: the main job. test: the gate. picture: a section through a part. compare: the large comparison.
+# load: a million calls with random bytes. bench: ratios of speed. install: the program point-list.
+.PHONY: run test picture compare load bench install archives
+
+PREFIX ?= /usr/local
+VIEWER_FLAGS = -std=c++17 -O2 -Wall -Wextra -Wpedantic -Wconversion -Wshadow -Werror
 
 run:
-	rt check root_vectors
-	target/bin/root_vectors < crates/root_vectors/stdin
+	rt check point_list
+	target/bin/point_list < crates/point_list/stdin
 
 test:
 	.ci/run
@@ -12,9 +16,23 @@ archives:
 	rt staticlib viewer
 	rt staticlib probes
 
+target/viewer: archives
+	g++ $(VIEWER_FLAGS) -Iinclude examples/viewer.cpp -Ltarget/staticlib -lviewer -lm -o $@
+
+picture: target/viewer
+	target/viewer picture docs/section.png
+
 compare: archives
 	cd tests && cargo run --offline --locked --release --bin compare -- large
 	cd tests && cargo run --offline --locked --release --features port --bin compare -- large
 
+load: archives
+	cd tests && cargo build --offline --locked --release --features port --bin load
+	valgrind -q --error-exitcode=9 tests/target/release/load 1000000
+
 bench: archives
 	cd tests && cargo run --offline --locked --release --bin bench
+
+install:
+	rt check point_list
+	install -D target/bin/point_list $(DESTDIR)$(PREFIX)/bin/point-list
