@@ -2,10 +2,12 @@
 //! numbers are safe to call. A list is lent as a pointer and a length, so those
 //! that take one are called through `answer`, which has a slice.
 
+pub mod columns;
 pub mod lists;
 pub mod meshes;
 pub mod trees;
 
+use std::cell::Cell;
 use std::ptr;
 
 /// Three coordinates.
@@ -193,14 +195,27 @@ impl Shape {
     }
 }
 
+thread_local! {
+    /// Whether empty lists are lent as null.
+    static NULL: Cell<bool> = const { Cell::new(true) };
+}
+
 /// The pointer that lends a list. C callers lend an empty one as null, which a
 /// slice never is.
 fn lent<T>(list: &mut [T]) -> *mut T {
-    if list.is_empty() {
+    if list.is_empty() && NULL.get() {
         ptr::null_mut()
     } else {
         list.as_mut_ptr()
     }
+}
+
+/// Makes calls whose empty lists are lent where they lie, which is no place to read.
+pub fn without_null<R>(calls: impl FnOnce() -> R) -> R {
+    NULL.set(false);
+    let result = calls();
+    NULL.set(true);
+    result
 }
 
 /// The engine's answer on a point: 0 outside, 1 inside, or a refusal's number

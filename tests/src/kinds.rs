@@ -2,9 +2,11 @@
 //! own tests can give it a wrong one and see it fail.
 
 mod answer;
+pub mod columns;
 pub mod corrections;
 mod lent;
 pub mod lists;
+pub mod load;
 pub mod meshes;
 pub mod order;
 pub mod remainder;

@@ -4,6 +4,7 @@
 pub mod engine;
 pub mod kinds;
 pub mod plan;
+pub mod program;
 pub mod random;
 pub mod report;
 pub mod whole;

@@ -5,7 +5,7 @@ use std::process::ExitCode;
 
 use zirwennach_tests::engine;
 use zirwennach_tests::kinds::{
-    corrections, lists, meshes, order, remainder, root, rules, shapes, trees,
+    columns, corrections, lists, meshes, order, remainder, root, rules, shapes, trees,
 };
 use zirwennach_tests::plan::{DEFAULT_SEED, Plan};
 use zirwennach_tests::report::Report;
@@ -77,5 +77,8 @@ fn run(plan: &Plan) -> Report {
     lists::answers::large(&mut report, plan, engine::lists::contains);
     lists::rewritings::compare(&mut report, plan, engine::lists::contains);
     lists::refusals::compare(&mut report, plan, engine::lists::contains);
+    columns::changes::compare(&mut report, plan, engine::columns::point_list);
+    columns::limits::compare(&mut report, plan, engine::columns::point_list);
+    columns::answers::compare(&mut report, plan, engine::columns::point_list);
     report
 }

@@ -77,59 +77,76 @@ impl Element for u64 {
 /// How many guards stand on either side of a list.
 const GUARDS: usize = 4;
 
-/// A list lent from the middle of a buffer, with guards on both sides.
+/// A list lent from the middle of a buffer, with guards on both sides or without.
 pub struct Lent<T> {
-    buffer: Vec<T>,
-    before: Vec<T>,
+    buffer: Box<[T]>,
+    before: Box<[T]>,
+    guards: usize,
 }
 
 impl<T: Element> Lent<T> {
     pub fn new(list: &[T]) -> Self {
-        let buffer = [&[T::GUARD; GUARDS], list, &[T::GUARD; GUARDS]].concat();
+        Self::guarded(list, GUARDS)
+    }
+
+    /// A list without guards: an allocation of exactly its size, so that a checker of
+    /// memory sees a read or a write beside it.
+    pub fn exact(list: &[T]) -> Self {
+        Self::guarded(list, 0)
+    }
+
+    fn guarded(list: &[T], guards: usize) -> Self {
+        let guard = &[T::GUARD; GUARDS][..guards];
+        let buffer = [guard, list, guard].concat().into_boxed_slice();
         Self {
             before: buffer.clone(),
             buffer,
+            guards,
         }
     }
 
     /// A list of random bit patterns, to be written to.
     pub fn garbage(length: usize, random: &mut Random) -> Self {
-        let list: Vec<T> = (0..length).map(|_| T::from_bits(random.bits())).collect();
-        Self::new(&list)
+        Self::new(&garbage(length, random))
     }
 
     pub fn list(&mut self) -> &mut [T] {
-        let end = self.buffer.len() - GUARDS;
-        &mut self.buffer[GUARDS..end]
+        let end = self.buffer.len() - self.guards;
+        &mut self.buffer[self.guards..end]
     }
 
     /// The list as it was lent.
     pub fn before(&self) -> &[T] {
-        &self.before[GUARDS..self.before.len() - GUARDS]
+        &self.before[self.guards..self.before.len() - self.guards]
     }
 
     /// The first place that does not hold what was to be written there, or was
     /// changed where nothing was to be written.
     pub fn wrong(&self, name: &'static str, written: &[T]) -> Option<Wrong> {
-        let end = GUARDS + written.len();
+        let end = self.guards + written.len();
         let place = (0..self.buffer.len()).find(|&i| {
-            if (GUARDS..end).contains(&i) {
-                !self.buffer[i].same(written[i - GUARDS])
+            if (self.guards..end).contains(&i) {
+                !self.buffer[i].same(written[i - self.guards])
             } else {
                 self.buffer[i].bits() != self.before[i].bits()
             }
         })?;
-        let want = match place.checked_sub(GUARDS).and_then(|i| written.get(i)) {
+        let want = match place.checked_sub(self.guards).and_then(|i| written.get(i)) {
             Some(want) => want.bits(),
             None => self.before[place].bits(),
         };
         Some(Wrong {
             list: name,
-            place: place as i64 - GUARDS as i64,
+            place: place as i64 - self.guards as i64,
             got: self.buffer[place].bits(),
             want,
         })
     }
+}
+
+/// Random bit patterns.
+pub fn garbage<T: Element>(length: usize, random: &mut Random) -> Vec<T> {
+    (0..length).map(|_| T::from_bits(random.bits())).collect()
 }
 
 /// How many elements of a list are printed.
@@ -200,6 +217,17 @@ mod tests {
         let mut lent = Lent::new(&[1.0, 0.0]);
         lent.list()[1] = -0.0;
         assert!(lent.wrong("list", &[]).is_some());
+    }
+
+    #[test]
+    fn a_list_without_guards_is_as_long_as_it_is_lent() {
+        let mut lent = Lent::exact(&[1u32, 2]);
+        assert_eq!(lent.list(), [1, 2]);
+        assert_eq!(lent.buffer.len(), 2);
+        lent.list()[1] = 3;
+        assert!(lent.wrong("list", &[1, 3]).is_none());
+        let wrong = lent.wrong("list", &[1]).expect("a change");
+        assert_eq!(wrong.place, 1);
     }
 
     #[test]

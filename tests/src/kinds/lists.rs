@@ -2,11 +2,11 @@
 //! plain scan of document 01 and against csx.
 
 pub mod answers;
-mod by_csx;
+pub(super) mod by_csx;
 pub mod cases;
-mod expected;
-mod inputs;
-mod points;
+pub(super) mod expected;
+pub(super) mod inputs;
+pub(super) mod points;
 pub mod refusals;
 pub mod rewritings;
 #[cfg(test)]
@@ -17,10 +17,10 @@ use csx::{Polyhedron, Vec3};
 use self::expected::{Prepared, refusal};
 use super::answer::Answer;
 use super::lent::{Lent, cut};
-use super::meshes::expected::{self as of_mesh, Bounds, edge_keys};
+use super::meshes::expected::{Bounds, edge_keys};
 use super::meshes::triangles::sides;
 use super::meshes::{self, LentMesh, Line, Mesh, Outcome};
-use super::trees::checking::judged;
+use super::trees::checking::answered;
 use super::trees::expected::own_boxes;
 use super::trees::{LentTree, Tree};
 use crate::engine::{self, Point, REFUSAL};
@@ -37,12 +37,12 @@ pub type Contains = fn(
 ) -> u64;
 
 /// A call: what is lent, and how long the buffers are that are written to.
-struct Call<'a> {
-    mesh: &'a Mesh,
-    tree: &'a Tree,
-    points: &'a [f64],
-    work: usize,
-    answers: usize,
+pub(super) struct Call<'a> {
+    pub mesh: &'a Mesh,
+    pub tree: &'a Tree,
+    pub points: &'a [f64],
+    pub work: usize,
+    pub answers: usize,
 }
 
 impl<'a> Call<'a> {
@@ -59,11 +59,8 @@ impl<'a> Call<'a> {
     }
 
     /// What is to be answered: the refusal by questions 1 to 9, or 0.
-    fn want(&self) -> u64 {
-        if let Some(refusal) = of_mesh::refusal(self.mesh) {
-            return refusal;
-        }
-        match judged(self.mesh, &own_boxes(self.mesh), self.tree, self.work) {
+    pub fn want(&self) -> u64 {
+        match answered(self.mesh, self.tree, self.work) {
             0 => refusal(self.points, self.answers).unwrap_or(0),
             refusal => refusal,
         }
@@ -71,11 +68,20 @@ impl<'a> Call<'a> {
 
     /// What is written to the work places: the edge keys, a 0 for each corner if the
     /// tree or the list is refused, or nothing.
-    fn work_left(&self, want: u64) -> Vec<u64> {
+    pub fn work_left(&self, want: u64) -> Vec<u64> {
         match want / REFUSAL {
             0 => edge_keys(self.mesh),
             1..=6 => Vec::new(),
             _ => vec![0; self.mesh.corners.len()],
+        }
+    }
+
+    /// What is written to the places for answers: the plain scan's, unless something
+    /// is refused.
+    pub fn answers_left(&self, want: u64) -> Vec<u8> {
+        match want {
+            0 => Prepared::new(self.mesh).answers(self.points.as_chunks().0),
+            _ => Vec::new(),
         }
     }
 
@@ -117,7 +123,7 @@ impl<'a> Call<'a> {
     }
 
     /// The call as it is printed, with the points from this one on.
-    fn text(&self, first: usize) -> String {
+    pub fn text(&self, first: usize) -> String {
         format!(
             "{}, {}, work of {}, answers of {}, {} points, from number {first} on {}",
             self.mesh.text(),
@@ -158,7 +164,7 @@ impl<'a> Subject<'a> {
 }
 
 /// Counts the answers that were expected.
-fn see_answers(line: &mut Line, answers: &[u8]) {
+pub(super) fn see_answers(line: &mut Line, answers: &[u8]) {
     for answer in answers {
         line.see(Answer(u64::from(*answer)).to_string());
     }

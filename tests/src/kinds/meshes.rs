@@ -152,6 +152,15 @@ impl LentMesh {
         }
     }
 
+    /// The same without guards.
+    pub(super) fn exact(mesh: &Mesh) -> Self {
+        Self {
+            coords: Lent::exact(&mesh.coords),
+            corners: Lent::exact(&mesh.corners),
+            ends: Lent::exact(&mesh.ends),
+        }
+    }
+
     pub(super) fn lend(&mut self) -> engine::meshes::Mesh<'_> {
         engine::meshes::Mesh {
             coords: self.coords.list(),

@@ -3,10 +3,10 @@
 
 mod basic;
 pub mod cases;
-mod changes;
+pub(super) mod changes;
 mod curve;
 pub mod edges;
-mod expected;
+pub(super) mod expected;
 mod numbers;
 mod poly;
 pub mod refusals;
@@ -29,15 +29,15 @@ pub type Engine = fn(&Shape, &mut [f64], Point) -> u64;
 
 /// A shape, the list that is lent for it, and points to ask about.
 #[derive(Clone)]
-struct Case {
-    shape: Shape,
-    list: Vec<f64>,
-    points: Vec<Point>,
+pub(super) struct Case {
+    pub shape: Shape,
+    pub list: Vec<f64>,
+    pub points: Vec<Point>,
 }
 
 impl Case {
     /// The numbers of the shape and of its list.
-    fn numbers_mut(&mut self) -> impl Iterator<Item = &mut f64> {
+    pub(super) fn numbers_mut(&mut self) -> impl Iterator<Item = &mut f64> {
         self.shape.numbers_mut().into_iter().chain(&mut self.list)
     }
 
@@ -52,22 +52,22 @@ impl Case {
 }
 
 /// A shape that is asked about: how its cases are made, and how csx is asked.
-struct Form {
-    name: &'static str,
+pub(super) struct Form {
+    pub name: &'static str,
     /// The system of the shape's and the points' coordinates.
-    system: CoordSystem,
+    pub system: CoordSystem,
     /// How many numbers an entry of its list has, or 0 if it has no list.
-    width: usize,
+    pub width: usize,
     /// Whether any point can be inside.
-    solid: bool,
+    pub solid: bool,
     /// A random case, mostly of everyday size, with this many entries in its
     /// list.
-    case: fn(&mut Random, usize) -> Case,
+    pub case: fn(&mut Random, usize) -> Case,
 }
 
 /// Every shape. A multi-box is asked about in both systems: it compares its
 /// numbers as they are, so its answer has to be the same.
-const FORMS: [Form; 13] = [
+pub(super) const FORMS: [Form; 13] = [
     Form {
         name: "box",
         system: CoordSystem::Cartesian,
@@ -176,7 +176,7 @@ impl Form {
 type Line = report::Line<Answer>;
 
 /// The question as it is printed.
-fn question(shape: &Shape, list: &[f64], point: Point) -> String {
+pub(super) fn question(shape: &Shape, list: &[f64], point: Point) -> String {
     format!("{shape:?}, list {}, point {point:?}", cut(list))
 }
 

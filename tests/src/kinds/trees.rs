@@ -27,7 +27,7 @@ pub struct Tree {
 
 impl Tree {
     /// How many whole nodes there are.
-    fn node_count(&self) -> usize {
+    pub(super) fn node_count(&self) -> usize {
         self.nodes.len() / 2
     }
 
@@ -79,6 +79,15 @@ impl LentTree {
             boxes: Lent::new(&tree.boxes),
             nodes: Lent::new(&tree.nodes),
             items: Lent::new(&tree.items),
+        }
+    }
+
+    /// The same without guards.
+    pub(super) fn exact(tree: &Tree) -> Self {
+        Self {
+            boxes: Lent::exact(&tree.boxes),
+            nodes: Lent::exact(&tree.nodes),
+            items: Lent::exact(&tree.items),
         }
     }
 

@@ -40,10 +40,7 @@ impl Asker {
     /// Makes a call, which may be refused.
     fn ask(&mut self, call: &Call) -> u64 {
         let want = call.want();
-        let answers = match want {
-            0 => Prepared::new(call.mesh).answers(call.points.as_chunks().0),
-            _ => Vec::new(),
-        };
+        let answers = call.answers_left(want);
         call.ask(
             self.contains,
             &mut self.line,
@@ -68,34 +65,60 @@ pub fn compare(report: &mut Report, plan: &Plan, contains: Contains) {
 pub(super) fn faults(report: &mut Report, plan: &Plan, contains: Contains) {
     let mut asker = Asker::new(contains, plan, "faults");
     for _ in 0..plan.times(20_000) {
-        let random = &mut asker.random;
-        let count = pick(4, random);
-        let (mut mesh, points) = any_case(count, random);
-        let mut points = points.concat();
-        let mut tree = others::any(&own_boxes(&mesh), random);
-        let mut work = mesh.corners.len() + pick(3, random);
-        let mut answers = count;
-        // 1 and 2 come last: their faults leave no faces to be found.
-        let questions = [9, 8, 7, 6, 3, 4, 5, 1, 2];
-        let asked = if random.flip() { 4 } else { 9 };
-        for question in some_of(&questions[..asked], random) {
-            match question {
-                9 => spoil_points(&mut points, random),
-                8 => spoil_lengths(&mut points, &mut answers, random),
-                7 => (DAMAGES[0].damage)(&mut tree, random),
-                6 => work = pick(mesh.corners.len() + 1, random),
-                _ => spoil(&mut mesh, question, random),
-            }
-        }
-        asker.ask(&Call {
-            mesh: &mesh,
-            tree: &tree,
-            points: &points,
-            work,
-            answers,
-        });
+        let faulty = faulty(&mut asker.random);
+        asker.ask(&faulty.call());
     }
     asker.line.add_to(report, &QUESTIONS);
+}
+
+/// What a call lends.
+pub(in crate::kinds) struct Owned {
+    pub mesh: Mesh,
+    pub tree: Tree,
+    pub points: Vec<f64>,
+    pub work: usize,
+    pub answers: usize,
+}
+
+impl Owned {
+    pub fn call(&self) -> Call<'_> {
+        Call {
+            mesh: &self.mesh,
+            tree: &self.tree,
+            points: &self.points,
+            work: self.work,
+            answers: self.answers,
+        }
+    }
+}
+
+/// A call with few points, without a fault or with any.
+pub(in crate::kinds) fn faulty(random: &mut Random) -> Owned {
+    let count = pick(4, random);
+    let (mut mesh, points) = any_case(count, random);
+    let mut points = points.concat();
+    let mut tree = others::any(&own_boxes(&mesh), random);
+    let mut work = mesh.corners.len() + pick(3, random);
+    let mut answers = count;
+    // 1 and 2 come last: their faults leave no faces to be found.
+    let questions = [9, 8, 7, 6, 3, 4, 5, 1, 2];
+    let asked = if random.flip() { 4 } else { 9 };
+    for question in some_of(&questions[..asked], random) {
+        match question {
+            9 => spoil_points(&mut points, random),
+            8 => spoil_lengths(&mut points, &mut answers, random),
+            7 => (DAMAGES[0].damage)(&mut tree, random),
+            6 => work = pick(mesh.corners.len() + 1, random),
+            _ => spoil(&mut mesh, question, random),
+        }
+    }
+    Owned {
+        mesh,
+        tree,
+        points,
+        work,
+        answers,
+    }
 }
 
 /// Some coordinates that are not finite, if there are any.

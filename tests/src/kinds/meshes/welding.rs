@@ -16,20 +16,20 @@ use crate::report::Report;
 pub type Weld = fn(&mut [f64], &mut Welded) -> u64;
 
 /// The most triangles that are accepted.
-const TRIANGLES: usize = 21_845;
+pub(in crate::kinds) const TRIANGLES: usize = 21_845;
 
 /// How long the lent buffers are.
 #[derive(Clone, Copy, Debug)]
-struct Room {
-    coords: usize,
-    corners: usize,
-    ends: usize,
-    sizes: usize,
+pub(in crate::kinds) struct Room {
+    pub coords: usize,
+    pub corners: usize,
+    pub ends: usize,
+    pub sizes: usize,
 }
 
 impl Room {
     /// As long as needed for a list of so many numbers.
-    fn needed(numbers: usize) -> Self {
+    pub fn needed(numbers: usize) -> Self {
         Self {
             coords: numbers / 9 * 9,
             corners: numbers / 9 * 3,
@@ -58,7 +58,7 @@ impl Room {
 }
 
 /// The refusal by questions 1, 5 and 6, if there is one.
-fn refusal(triangles: &[f64], room: Room) -> Option<u64> {
+pub(in crate::kinds) fn refusal(triangles: &[f64], room: Room) -> Option<u64> {
     if !triangles.len().is_multiple_of(9) || triangles.len() / 9 > TRIANGLES {
         return Some(code(1, 0));
     }
@@ -76,7 +76,7 @@ fn refusal(triangles: &[f64], room: Room) -> Option<u64> {
 
 /// The welded mesh: equal corners are one vertex, and a triangle two of whose
 /// corners are one is dropped.
-fn by_rule(triangles: &[f64]) -> Mesh {
+pub(in crate::kinds) fn by_rule(triangles: &[f64]) -> Mesh {
     let mut vertices: Vec<Point> = Vec::new();
     let mut mesh = Mesh::default();
     for triangle in triangles.as_chunks::<9>().0 {
@@ -125,7 +125,7 @@ impl Left {
     /// What the call came to if this mesh was to be written, or nothing.
     fn outcome(&self, written: Option<&Mesh>) -> Outcome {
         let nothing = Mesh::default();
-        let sizes = written.map(|mesh| [mesh.vertex_count() as u64, mesh.ends.len() as u64]);
+        let sizes = written.map(sizes);
         let sizes = sizes.as_ref().map_or(&[][..], |sizes| sizes);
         Outcome {
             answer: self.answer,
@@ -135,6 +135,11 @@ impl Left {
                 .or_else(|| self.sizes.wrong("sizes", sizes)),
         }
     }
+}
+
+/// The numbers of vertices and of faces.
+pub(in crate::kinds) fn sizes(mesh: &Mesh) -> [u64; 2] {
+    [mesh.vertex_count() as u64, mesh.ends.len() as u64]
 }
 
 /// Welds a list into buffers of these lengths.
@@ -232,7 +237,7 @@ fn see(line: &mut Line, triangles: &[f64], mesh: &Mesh) {
     }
 }
 
-fn text(triangles: &[f64], room: Room) -> String {
+pub(in crate::kinds) fn text(triangles: &[f64], room: Room) -> String {
     format!("triangles {}, {room:?}", cut(triangles))
 }
 
@@ -241,22 +246,7 @@ fn text(triangles: &[f64], room: Room) -> String {
 pub fn compare(report: &mut Report, plan: &Plan, weld: Weld) {
     let mut asker = Asker::new(weld, plan, "welding", "csx");
     for _ in 0..plan.times(400_000) {
-        let random = &mut asker.random;
-        let mut list = triangles(random);
-        let questions = some_of(&[5, 1, 6], random);
-        let mut short = false;
-        for question in questions {
-            match question {
-                1 => list.resize(list.len() / 9 * 9 + 1 + pick(8, random), 0.0),
-                5 => spoil(&mut list, random),
-                _ => short = true,
-            }
-        }
-        let mut room = Room::needed(list.len());
-        room.widen(random);
-        if short {
-            shorten(&mut room, list.len(), random);
-        }
+        let (list, room) = faulty(&mut asker.random);
         ask(&mut asker, &list, room);
     }
     for count in 1..4 {
@@ -270,6 +260,26 @@ pub fn compare(report: &mut Report, plan: &Plan, weld: Weld) {
         }
     }
     asker.add_to(report, &NEEDED, &NEEDED[..5]);
+}
+
+/// A short list and room for its mesh, without a fault or with any.
+pub(in crate::kinds) fn faulty(random: &mut Random) -> (Vec<f64>, Room) {
+    let mut list = triangles(random);
+    let questions = some_of(&[5, 1, 6], random);
+    let mut short = false;
+    for question in questions {
+        match question {
+            1 => list.resize(list.len() / 9 * 9 + 1 + pick(8, random), 0.0),
+            5 => spoil(&mut list, random),
+            _ => short = true,
+        }
+    }
+    let mut room = Room::needed(list.len());
+    room.widen(random);
+    if short {
+        shorten(&mut room, list.len(), random);
+    }
+    (list, room)
 }
 
 /// One number of the list not finite.

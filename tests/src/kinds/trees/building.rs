@@ -20,10 +20,10 @@ pub type Build = fn(&mut engine::meshes::Mesh, &mut engine::trees::Tree) -> u64;
 
 /// How long the lent buffers are.
 #[derive(Clone, Copy, Debug)]
-struct Room {
-    boxes: usize,
-    nodes: usize,
-    items: usize,
+pub(in crate::kinds) struct Room {
+    pub boxes: usize,
+    pub nodes: usize,
+    pub items: usize,
 }
 
 impl Room {
@@ -52,7 +52,7 @@ impl Room {
 
     /// Room for so many triangles, some of it longer than needed, and one buffer
     /// or all of them shorter if that is asked for and can be.
-    fn any(triangles: usize, short: bool, random: &mut Random) -> Self {
+    pub fn any(triangles: usize, short: bool, random: &mut Random) -> Self {
         let mut room = Self::needed(triangles);
         let one = pick(4, random);
         for (i, length) in room.lengths_mut().into_iter().enumerate() {
@@ -101,11 +101,7 @@ impl Builder {
         let answer = function(&mut lent.lend(), &mut tree.lend());
         let unchanged = lent.wrong(&Mesh::default());
         let text = || format!("{}, {room:?}", mesh.text());
-        let refused = refusal(mesh).or_else(|| {
-            let needed = Room::needed(mesh.triangle_count());
-            (!room.holds(needed)).then_some(ROOM)
-        });
-        if let Some(want) = refused {
+        if let Some(want) = refused(mesh, room) {
             let wrong = unchanged.or_else(|| tree.wrong(&Tree::default()));
             return rule.compare(Outcome { answer, wrong }, want, text);
         }
@@ -152,6 +148,14 @@ impl Builder {
         self.csx.add_to(report, &["centres apart at each median"]);
         note_zeros(report, self.zeros);
     }
+}
+
+/// The refusal by questions 1 to 6, if there is one.
+pub(in crate::kinds) fn refused(mesh: &Mesh, room: Room) -> Option<u64> {
+    refusal(mesh).or_else(|| {
+        let needed = Room::needed(mesh.triangle_count());
+        (!room.holds(needed)).then_some(ROOM)
+    })
 }
 
 /// What sort of tree it is: what csx leaves open of it, if anything.
@@ -206,23 +210,28 @@ const NEEDED: [&str; 6] = [
 pub fn compare(report: &mut Report, plan: &Plan, build: Build) {
     let mut builder = Builder::new(build, plan, "trees built");
     for _ in 0..plan.times(150_000) {
-        let random = &mut builder.asker.random;
-        let mut mesh = inputs::mesh(random);
-        let triangles = mesh.triangle_count();
-        let mut short = false;
-        if random.below(4) == 0 {
-            // 1 and 2 come last: their faults leave no faces to be found.
-            for question in some_of(&[6, 3, 4, 5, 1, 2], random) {
-                match question {
-                    6 => short = true,
-                    _ => spoil(&mut mesh, question, random),
-                }
-            }
-        }
-        let room = Room::any(triangles, short, random);
+        let (mesh, room) = faulty(&mut builder.asker.random);
         builder.ask(&mesh, room);
     }
     builder.add_to(report, &[&NEEDED[..], &QUESTIONS[1..7]].concat());
+}
+
+/// A small mesh and room for its tree, without a fault or with any.
+pub(in crate::kinds) fn faulty(random: &mut Random) -> (Mesh, Room) {
+    let mut mesh = inputs::mesh(random);
+    let triangles = mesh.triangle_count();
+    let mut short = false;
+    if random.below(4) == 0 {
+        // 1 and 2 come last: their faults leave no faces to be found.
+        for question in some_of(&[6, 3, 4, 5, 1, 2], random) {
+            match question {
+                6 => short = true,
+                _ => spoil(&mut mesh, question, random),
+            }
+        }
+    }
+    let room = Room::any(triangles, short, random);
+    (mesh, room)
 }
 
 /// Compares large meshes, also with a buffer one short, and centres in orders that

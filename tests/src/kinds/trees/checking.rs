@@ -52,14 +52,10 @@ impl Asker {
         let mut lent_tree = LentTree::new(tree);
         let mut work = Lent::garbage(length, &mut self.random);
         let answer = (self.check)(&mut lent.lend(), &mut lent_tree.lend(), work.list());
-        let left = match want {
-            0 | BROKEN => vec![0; mesh.corners.len()],
-            _ => Vec::new(),
-        };
         let wrong = lent
             .wrong(&Mesh::default())
             .or_else(|| lent_tree.wrong(&Tree::default()))
-            .or_else(|| work.wrong("work", &left));
+            .or_else(|| work.wrong("work", &work_left(mesh, want)));
         self.line.compare(Outcome { answer, wrong }, want, || {
             format!("{}, {}, work of {length}", mesh.text(), tree.text())
         });
@@ -69,7 +65,20 @@ impl Asker {
     }
 }
 
-/// What is to be answered for an accepted mesh and so many work places.
+/// What is written to the work places where this is answered.
+pub(in crate::kinds) fn work_left(mesh: &Mesh, want: u64) -> Vec<u64> {
+    match want {
+        0 | BROKEN => vec![0; mesh.corners.len()],
+        _ => Vec::new(),
+    }
+}
+
+/// What is to be answered for so many work places.
+pub(in crate::kinds) fn answered(mesh: &Mesh, tree: &Tree, length: usize) -> u64 {
+    refusal(mesh).unwrap_or_else(|| judged(mesh, &own_boxes(mesh), tree, length))
+}
+
+/// The same for an accepted mesh.
 pub(in crate::kinds) fn judged(mesh: &Mesh, own: &[Bounds], tree: &Tree, length: usize) -> u64 {
     if length < mesh.corners.len() {
         ROOM
@@ -244,23 +253,28 @@ pub(super) fn damaged(report: &mut Report, plan: &Plan, check: Check) {
 pub(super) fn refusals(report: &mut Report, plan: &Plan, check: Check) {
     let mut asker = Asker::new(check, plan, "faults of the mesh");
     for _ in 0..plan.times(50_000) {
-        let random = &mut asker.random;
-        let mut mesh = inputs::mesh(random);
-        let mut tree = others::tree(&own_boxes(&mesh), random);
-        let mut length = mesh.corners.len() + pick(3, random);
-        // 1 and 2 come last: their faults leave no faces to be found.
-        for question in some_of(&[7, 6, 3, 4, 5, 1, 2], random) {
-            match question {
-                7 => (DAMAGES[0].damage)(&mut tree, random),
-                6 => length = pick(mesh.corners.len() + 1, random),
-                _ => spoil(&mut mesh, question, random),
-            }
-        }
-        let want =
-            refusal(&mesh).unwrap_or_else(|| judged(&mesh, &own_boxes(&mesh), &tree, length));
+        let (mesh, tree, length) = faulty(&mut asker.random);
+        let want = answered(&mesh, &tree, length);
         asker.compare(&mesh, &tree, length, want);
     }
     asker.line.add_to(report, &QUESTIONS[..8]);
+}
+
+/// A small mesh, a tree of it and a number of work places, without a fault or with
+/// any.
+pub(in crate::kinds) fn faulty(random: &mut Random) -> (Mesh, Tree, usize) {
+    let mut mesh = inputs::mesh(random);
+    let mut tree = others::tree(&own_boxes(&mesh), random);
+    let mut length = mesh.corners.len() + pick(3, random);
+    // 1 and 2 come last: their faults leave no faces to be found.
+    for question in some_of(&[7, 6, 3, 4, 5, 1, 2], random) {
+        match question {
+            7 => (DAMAGES[0].damage)(&mut tree, random),
+            6 => length = pick(mesh.corners.len() + 1, random),
+            _ => spoil(&mut mesh, question, random),
+        }
+    }
+    (mesh, tree, length)
 }
 
 /// Compares large meshes, with their own trees and with damaged ones.
