@@ -63,7 +63,7 @@ loop-again c =
     let written = rows-written answers (c .before .before .before .before .before .before .before .before .before .args .rows .now) i (omega arith) in
     let front = length-rows 0 (take (i + 1) answers) in
     let few = length-take-le (i + 1) answers (omega arith) in
-    rw (width, c .before .before .write-line .ensures, c .before .before .before .before .before .before .loop .inv .2, written) (omega arith, length-over (Listing.rows 0 (take (i + 1) answers)) (c .before .before .before .before .before .before .before .before .before .args .rows .now) (omega (arith, front, few, c .before .before .before .before .before .before .before .before .before .pre .1)), refl)
+    rw (width, c .before .before .write-line .ensures, c .before .before .before .before .before .before .loop .inv .2) (omega arith, rw written (length-over (Listing.rows 0 (take (i + 1) answers)) (c .before .before .before .before .before .before .before .before .before .args .rows .now) (omega (arith, front, few, c .before .before .before .before .before .before .before .before .before .pre .1))), written)
 
 same-length : tie.Need-same-length Inv-loop μ-loop
 same-length c = c .before .loop .inv .1
