@@ -1,4 +1,3 @@
 -- The definitions of the program `root_vectors`.
-pub mod Hex
 pub mod Vector
 pub mod Tally

@@ -6,9 +6,9 @@ use lib.Dec.{eqb}
 use lib.ListN.{length, getD, take, drop}
 use lib.Ieee.{Float, binary64, nanBits, isNan, ofBits, toBits}
 use Rattle.float.specs.Root.{root}
-use Rattle.root_vectors.specs.Hex.{hexNumber}
-use Rattle.root_vectors.specs.declared.hex.Number.{Number}
-use Rattle.root_vectors.specs.declared.hex.Number.the-variants.{Is, Not}
+use Rattle.hex.specs.Hex.{hexNumber}
+use Rattle.hex.specs.declared.Number.{Number}
+use Rattle.hex.specs.declared.Number.the-variants.{Is, Not}
 use Rattle.root_vectors.specs.declared.vector.Verdict.{Verdict}
 use Rattle.root_vectors.specs.declared.vector.Verdict.the-variants.{Comment, Equal, Different, Unreadable}
 

@@ -1,10 +1,10 @@
 // What a line of the text says of the square root, as specs/Vector.antt defines it.
 ghost use mathlib.Core.Path.{_≡_};
-ghost use lib.Ieee.{binary64, nanBits};
-ghost use Rattle.root_vectors.specs.Hex.{hexNumber};
+ghost use Rattle.hex.specs.Hex.{hexNumber};
 ghost use Rattle.root_vectors.specs.Vector as Vector;
-use crate::hex::Number;
-use crate::hex::read;
+use hex::Number;
+use hex::is_nan;
+use hex::read;
 
 // What a line is: a comment, a vector whose result is the root of its x, one whose result differs,
 // with the pattern of its x, or none of these.
@@ -13,13 +13,6 @@ pub enum Verdict {
     Equal,
     Different(u64),
     Unreadable,
-}
-
-// Whether the pattern is a NaN's.
-fn is_nan(bits: u64) -> bool
-    ensures { λ r. ⌜ r ≡ nanBits binary64 bits ⌝ }
-{
-    0x7FF0_0000_0000_0000 < bits % 0x8000_0000_0000_0000
 }
 
 // Whether the root of the pattern x is the pattern y. No vector has a NaN's pattern.

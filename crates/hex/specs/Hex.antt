@@ -4,8 +4,8 @@ use mathlib.Core.Bool.{Bool, cond, _&&_}
 use mathlib.Core.List.{List, [], _∷_}
 use lib.Dec.{leb, ltb, eqb}
 use lib.ListN.{length}
-use Rattle.root_vectors.specs.declared.hex.Number.{Number}
-use Rattle.root_vectors.specs.declared.hex.Number.the-variants.{Is, Not}
+use Rattle.hex.specs.declared.Number.{Number}
+use Rattle.hex.specs.declared.Number.the-variants.{Is, Not}
 
 abbrev pub within : ℕ → ℕ → ℕ → Bool
 within low high b = leb low b && leb b high

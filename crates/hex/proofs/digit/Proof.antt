@@ -1,14 +1,14 @@
--- `hex::digit` meets its contract. The tests that lead to a return say in which of the three ranges the byte lies, or that it lies in none.
+-- `digit` meets its contract. The tests that lead to a return say in which of the three ranges the byte lies, or that it lies in none.
 use Prim.Native.Nat.{ℕ, _≤_}
 use mathlib.Core.Path.{_≡_, refl}
 use mathlib.Core.Bool.{Bool, true, false, _&&_}
 use native.Mathlib.Omega.{arith}
 use lib.Dec.{leb}
 use borrow.Author.Tests.{le-leb, leb-true}
-use Rattle.root_vectors.specs.Hex.{within, hexDigit}
+use Rattle.hex.specs.Hex.{within, hexDigit}
 use borrow.Author.Needs.{needs}
-use Rattle.root_vectors.proofs.hex.digit.Statement.{statement}
-use Rattle.root_vectors.proofs.hex.digit.Tie as tie
+use Rattle.hex.proofs.digit.Statement.{statement}
+use Rattle.hex.proofs.digit.Tie as tie
 
 yes : (low high b : ℕ) → low ≤ b → b ≤ high → within low high b ≡ true
 yes low high b l h = rw (le-leb low b l, le-leb b high h)

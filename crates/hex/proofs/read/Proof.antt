@@ -1,4 +1,4 @@
--- `hex::read` meets its contract. The invariant: n is what the i digits passed write, so it is below 16^i, and the whole text writes what n followed by the other digits does.
+-- `read` meets its contract. The invariant: n is what the i digits passed write, so it is below 16^i, and the whole text writes what n followed by the other digits does.
 -- The measure is the digits left.
 use Prim.Native.Nat.{ℕ, _+_, _*_, _-_, _^_, _≤_, _<_}
 use mathlib.Core.Path.{_≡_, refl, sym, _∙_}
@@ -10,10 +10,10 @@ use lib.Dec.{lit<}
 use lib.ListN.{length, getD, drop, drop-of-length-le}
 use lib.Seq.{drop-cons}
 use borrow.Author.Tests.{ne-eqb, eq-eqb, lt-ltb, le-ltb}
-use Rattle.root_vectors.specs.declared.hex.Number.the-variants.{Not}
-use Rattle.root_vectors.specs.Hex.{hexDigit, digitsAfter, hexNumber}
-use Rattle.root_vectors.proofs.hex.read.Statement.{statement}
-use Rattle.root_vectors.proofs.hex.read.Tie as tie
+use Rattle.hex.specs.declared.Number.the-variants.{Not}
+use Rattle.hex.specs.Hex.{hexDigit, digitsAfter, hexNumber}
+use Rattle.hex.proofs.read.Statement.{statement}
+use Rattle.hex.proofs.read.Tie as tie
 
 -- after fifteen digits or fewer there is room for another
 small : (n i : ℕ) → i < 16 → n < 16 ^ i → n < 2 ^ 60

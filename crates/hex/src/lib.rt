@@ -1,6 +1,7 @@
-// Hexadecimal digits and numbers of 16 digits, as specs/Hex.antt defines them.
+// Numbers of 16 hexadecimal digits, as specs/Hex.antt defines them, for programs that read bit patterns.
 ghost use mathlib.Core.Path.{_≡_};
-ghost use Rattle.root_vectors.specs.Hex as Hex;
+ghost use lib.Ieee.{binary64, nanBits};
+ghost use Rattle.hex.specs.Hex as Hex;
 
 // What a text of digits is: a number, or none.
 pub enum Number {
@@ -38,4 +39,11 @@ pub fn read(s: &[u8]) -> Number
         i += 1;
     }
     Number::Is(n)
+}
+
+// Whether the number is a NaN's pattern.
+pub fn is_nan(bits: u64) -> bool
+    ensures { λ r. ⌜ r ≡ nanBits binary64 bits ⌝ }
+{
+    0x7FF0_0000_0000_0000 < bits % 0x8000_0000_0000_0000
 }

@@ -1,9 +1,9 @@
--- `vector::is_nan` meets its contract: without its sign, a NaN's pattern is above that of infinity (`nanBits-above`).
+-- `is_nan` meets its contract: without its sign, a NaN's pattern is above that of infinity (`nanBits-above`).
 use mathlib.Core.Path.{sym}
 use lib.Ieee.{binary64}
 use lib.Ieee.Bits.{nanBits-above}
-use Rattle.root_vectors.proofs.vector.is_nan.Statement.{statement}
-use Rattle.root_vectors.proofs.vector.is_nan.Tie as tie
+use Rattle.hex.proofs.is_nan.Statement.{statement}
+use Rattle.hex.proofs.is_nan.Tie as tie
 
 returns : tie.Need-returns
 returns c = sym (nanBits-above binary64 (c .args .bits))

@@ -1,0 +1,2 @@
+-- What a text of hexadecimal digits is.
+pub mod Hex
