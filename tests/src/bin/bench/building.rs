@@ -11,34 +11,30 @@ use zirwennach_tests::kinds::trees::Tree;
 use zirwennach_tests::kinds::trees::inputs::{ORDERS, line};
 use zirwennach_tests::random::Random;
 
-use crate::{agree, best_times, in_time, print_row, spheres};
+use crate::spheres::Sphere;
+use crate::table::{Growth, Row, Table};
+use crate::{best_of_each, best_times};
 
 /// How many rounds are run, of which the best counts.
 const ROUNDS: usize = 15;
 /// How many times as long as csx building may take.
-const TIMES: u32 = 2;
+const TIMES: f64 = 2.0;
 
 /// How many triangles the meshes have that could make a builder slow, and how many
 /// rounds they are built.
 const SLOW: u32 = 65_536;
 const SLOW_ROUNDS: usize = 5;
 /// How many times as long as a mesh with random centres they may take.
-const SLOWER: u32 = 20;
+const SLOWER: f64 = 20.0;
 
-/// Prints the times, and answers whether all answers agree and no time is too
-/// long.
-pub fn run() -> bool {
-    println!(
-        "Building trees, the best of {ROUNDS} interleaved rounds: \
-         at most {TIMES} times csx's time"
-    );
-    let built = spheres::both().map(build);
+pub fn run(table: &mut Table, spheres: &[Sphere]) {
+    println!("Building trees, the best of {ROUNDS} interleaved rounds");
+    build(table, spheres);
     println!(
         "Building trees of {SLOW} triangles in orders that could make a selection slow, \
-         the best of {SLOW_ROUNDS} interleaved rounds: at most {SLOWER} times random centres"
+         the best of {SLOW_ROUNDS} interleaved rounds"
     );
-    let slow = slow_orders();
-    !built.contains(&false) && slow
+    slow_orders(table);
 }
 
 /// Lists with room for the tree of so many triangles.
@@ -50,26 +46,33 @@ fn room(triangles: usize) -> Tree {
     }
 }
 
-/// Times building beside csx's, which is given the triangles' boxes.
-fn build((name, mut mesh): (&str, Mesh)) -> bool {
-    let csx = mesh.csx().expect("an accepted mesh");
-    let boxes = own_boxes(&csx);
-    let mut room = room(mesh.triangle_count());
-    let mut lists = mesh.lend();
-    let mut nodes = 0;
-    let mut by_csx = Bvh::default();
-    let [engine, csx] = best_times(
-        ROUNDS,
-        [
-            &mut || nodes = trees::build(&mut lists, black_box(&mut room.lend())),
-            &mut || by_csx = Bvh::build(black_box(&boxes)),
-        ],
-    );
-    print_row(name, engine, "csx's Bvh::build", csx);
-    let numbers = by_csx.nodes.iter().flat_map(|n| [n.start, n.count]);
-    let same = nodes == by_csx.nodes.len() as u64
-        && room.nodes[..2 * nodes as usize].iter().copied().eq(numbers);
-    agree(same) && in_time(engine <= TIMES * csx)
+/// A mesh whose tree is built.
+struct Subject {
+    mesh: Mesh,
+    room: Tree,
+    nodes: u64,
+    boxes: Vec<BoundingBox>,
+    csx: Bvh,
+}
+
+impl Subject {
+    fn new(sphere: &Sphere) -> Self {
+        let mesh = sphere.mesh.clone();
+        Self {
+            room: room(mesh.triangle_count()),
+            nodes: 0,
+            boxes: own_boxes(&mesh.csx().expect("an accepted mesh")),
+            csx: Bvh::default(),
+            mesh,
+        }
+    }
+
+    /// Whether the starts and counts are those of csx.
+    fn agrees(&self) -> bool {
+        let numbers = self.csx.nodes.iter().flat_map(|n| [n.start, n.count]);
+        let built = &self.room.nodes[..2 * self.nodes as usize];
+        self.nodes == self.csx.nodes.len() as u64 && built.iter().copied().eq(numbers)
+    }
 }
 
 /// The box of each triangle.
@@ -78,9 +81,39 @@ fn own_boxes(csx: &Polyhedron) -> Vec<BoundingBox> {
     csx.triangles().iter().map(own).collect()
 }
 
+/// Times building beside csx's, which is given the triangles' boxes.
+fn build(table: &mut Table, spheres: &[Sphere]) {
+    let mut subjects: Vec<Subject> = spheres.iter().map(Subject::new).collect();
+    let times = best_of_each(
+        ROUNDS,
+        &mut subjects,
+        |subject| {
+            let room = black_box(&mut subject.room);
+            subject.nodes = trees::build(&mut subject.mesh.lend(), &mut room.lend());
+        },
+        |subject| subject.csx = Bvh::build(black_box(&subject.boxes)),
+    );
+    for ((sphere, subject), [engine, csx]) in spheres.iter().zip(&subjects).zip(&times) {
+        table.add(&Row {
+            what: "building a tree",
+            inputs: sphere.name,
+            engine: *engine,
+            beside: "csx's `Bvh::build`",
+            other: *csx,
+            most: Some(TIMES),
+        });
+        table.agree(subject.agrees());
+    }
+    table.grow(&Growth {
+        what: "building a tree",
+        triangles: spheres.iter().map(Sphere::triangles).collect(),
+        times,
+    });
+}
+
 /// Times building of meshes whose centres stand in such an order, beside one with
 /// random centres.
-fn slow_orders() -> bool {
+fn slow_orders(table: &mut Table) {
     let mut random = Random::new(754);
     let mut random_mesh = line(SLOW, |_| random.fraction());
     let mut meshes: Vec<(&str, Mesh)> = Vec::new();
@@ -89,11 +122,9 @@ fn slow_orders() -> bool {
         "random, faces of 3 and of 5 corners in turn",
         unlike_faces(&mut random),
     ));
-    let in_time = meshes
-        .iter_mut()
-        .map(|(name, mesh)| slow_order(name, mesh, &mut random_mesh));
-    // all are timed, also after one that takes too long
-    in_time.fold(true, |all, one| all & one)
+    for (name, mesh) in &mut meshes {
+        slow_order(table, name, mesh, &mut random_mesh);
+    }
 }
 
 /// A mesh of as many triangles whose faces have unlike numbers of corners, so that
@@ -108,18 +139,23 @@ fn unlike_faces(random: &mut Random) -> Mesh {
     net.mesh_at(|_| [0.0, 0.0, random.fraction()])
 }
 
-fn slow_order(name: &str, mesh: &mut Mesh, random: &mut Mesh) -> bool {
+fn slow_order(table: &mut Table, name: &str, mesh: &mut Mesh, random: &mut Mesh) {
     let [mut slow_room, mut random_room] = [room(SLOW as usize), room(SLOW as usize)];
     let build = |mesh: &mut Mesh, room: &mut Tree| {
         black_box(trees::build(&mut mesh.lend(), &mut room.lend()));
     };
-    let [slow, by_random] = best_times(
+    let [engine, other] = best_times(
         SLOW_ROUNDS,
         [&mut || build(mesh, &mut slow_room), &mut || {
             build(random, &mut random_room)
         }],
     );
-    let ratio = slow.as_secs_f64() / by_random.as_secs_f64();
-    println!("  {name:<44}{ratio:>8.3} times random centres");
-    in_time(slow <= SLOWER * by_random)
+    table.add(&Row {
+        what: "building a tree of 65,536 triangles",
+        inputs: name,
+        engine,
+        beside: "the engine, random centres",
+        other,
+        most: Some(SLOWER),
+    });
 }

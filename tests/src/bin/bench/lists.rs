@@ -1,63 +1,116 @@
 //! Answering lists of points, beside csx's answers for the same points.
 
 use std::hint::black_box;
-use std::time::Duration;
 
+use csx::{Polyhedron, Vec3};
 use zirwennach_tests::engine::lists::{List, contains};
 use zirwennach_tests::kinds::meshes::Mesh;
-use zirwennach_tests::kinds::trees::built;
+use zirwennach_tests::kinds::trees::{Tree, built};
 
-use crate::spheres::{POINTS, points};
-use crate::{agree, best_times, in_time, print_row, spheres};
+use crate::best_of_each;
+use crate::spheres::{Sphere, points};
+use crate::table::{Growth, Row, Table};
 
 /// How many rounds are run, of which the best counts.
 const ROUNDS: usize = 9;
-/// What a list has to take less than, also on the largest mesh.
-const LONGEST: Duration = Duration::from_millis(250);
+/// How many times as long as csx a list may take.
+const TIMES: f64 = 1.0;
+/// How many seconds a list has to take less than, also on the largest mesh.
+const LONGEST: f64 = 0.25;
 
-/// Prints the times, and answers whether all answers agree and no time is too
-/// long.
-pub fn run() -> bool {
-    println!(
-        "Answering {POINTS} points, with questions 1 to 9 and the edge keys, \
-         the best of {ROUNDS} interleaved rounds: no longer than csx's answers \
-         for the points alone, and less than {} ms",
-        LONGEST.as_millis()
-    );
-    let small = answer(spheres::small());
-    let both = spheres::both().map(answer);
-    small && !both.contains(&false)
+/// A mesh with its tree and a list of points.
+pub struct Subject {
+    mesh: Mesh,
+    tree: Tree,
+    work: Vec<u64>,
+    points: Vec<f64>,
+    answers: Vec<u8>,
+    refusal: u64,
+    pub csx: Polyhedron,
+    by_csx: Vec<u8>,
 }
 
-/// Times a call beside csx's answers, for points in and about the mesh's box. csx
-/// has its tree at hand.
-fn answer((name, mut mesh): (&str, Mesh)) -> bool {
-    let csx = mesh.csx().expect("an accepted mesh");
-    let points = points();
-    let mut tree = built(&mesh);
-    let mut work = vec![0; mesh.corners.len()];
-    let mut lent: Vec<f64> = points.iter().flat_map(|p| p.0).collect();
-    let mut answers = vec![0; POINTS];
-    let mut lists = mesh.lend();
-    let mut refusal = 0;
-    let mut by_csx = vec![0; POINTS];
-    let [engine, csx] = best_times(
-        ROUNDS,
-        [
-            &mut || {
-                let mut list = List {
-                    points: &mut lent,
-                    answers: black_box(&mut answers),
-                };
-                refusal = contains(&mut lists, &mut tree.lend(), &mut work, &mut list);
-            },
-            &mut || {
-                for (answer, p) in by_csx.iter_mut().zip(&points) {
-                    *answer = csx.contains(*p).into();
-                }
-            },
-        ],
+impl Subject {
+    pub fn new(sphere: &Sphere, points: &[Vec3]) -> Self {
+        let mesh = sphere.mesh.clone();
+        Self {
+            tree: built(&mesh),
+            work: vec![0; mesh.corners.len()],
+            points: points.iter().flat_map(|p| p.0).collect(),
+            answers: vec![0; points.len()],
+            refusal: 0,
+            csx: mesh.csx().expect("an accepted mesh"),
+            by_csx: vec![0; points.len()],
+            mesh,
+        }
+    }
+
+    /// One call for all points.
+    pub fn answer(&mut self) {
+        let mut list = List {
+            points: &mut self.points,
+            answers: black_box(&mut self.answers),
+        };
+        let (mesh, tree) = (&mut self.mesh.lend(), &mut self.tree.lend());
+        self.refusal |= contains(mesh, tree, &mut self.work, &mut list);
+    }
+
+    /// A call for each point.
+    pub fn answer_singly(&mut self) {
+        for (point, answer) in self.points.chunks_mut(3).zip(self.answers.chunks_mut(1)) {
+            let mut list = List {
+                points: point,
+                answers: black_box(answer),
+            };
+            let (mesh, tree) = (&mut self.mesh.lend(), &mut self.tree.lend());
+            self.refusal |= contains(mesh, tree, &mut self.work, &mut list);
+        }
+    }
+
+    /// csx's answers, with its tree at hand.
+    pub fn answer_by_csx(&mut self) {
+        let points = self.points.as_chunks().0.iter().copied().map(Vec3);
+        for (answer, p) in self.by_csx.iter_mut().zip(points) {
+            *answer = self.csx.contains(p).into();
+        }
+    }
+
+    /// Whether the engine's answers are those that csx gave in this one.
+    pub fn agrees(&self, other: &Self) -> bool {
+        self.refusal == 0 && self.answers == other.by_csx
+    }
+}
+
+/// Times a call beside csx's answers, for points in and about the mesh's box.
+pub fn run(table: &mut Table, spheres: &[Sphere]) {
+    println!(
+        "Answering lists, with questions 1 to 9 and the edge keys, the best of {ROUNDS} \
+         interleaved rounds: less than {LONGEST} s"
     );
-    print_row(name, engine, "csx's answers for the points", csx);
-    agree(refusal == 0 && answers == by_csx) && in_time(engine <= csx && engine < LONGEST)
+    let points = points();
+    let subject = |sphere| Subject::new(sphere, &points);
+    let mut subjects: Vec<Subject> = spheres.iter().map(subject).collect();
+    let times = best_of_each(
+        ROUNDS,
+        &mut subjects,
+        Subject::answer,
+        Subject::answer_by_csx,
+    );
+    for ((sphere, subject), [engine, csx]) in spheres.iter().zip(&subjects).zip(&times) {
+        table.add(&Row {
+            what: "a list of 65,536 points",
+            inputs: sphere.name,
+            engine: *engine,
+            beside: "csx's answers for them",
+            other: *csx,
+            most: Some(TIMES),
+        });
+        table.agree(subject.agrees(subject));
+        table.in_time(*engine < LONGEST);
+    }
+    table.grow(&Growth {
+        what: "a list, per point",
+        triangles: spheres.iter().map(Sphere::triangles).collect(),
+        times,
+    });
 }

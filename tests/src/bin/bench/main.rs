@@ -2,66 +2,68 @@
 
 mod building;
 mod checking;
+mod clock;
 mod lists;
 mod meshes;
+mod points;
 mod roots;
 mod spheres;
+mod table;
 
 use std::process::ExitCode;
-use std::time::{Duration, Instant};
+
+use table::Table;
 
 fn main() -> ExitCode {
     println!(
         "Times alone mean nothing on a shared machine: the ratio, from one run, is what counts."
     );
-    let agree = [
-        roots::run(),
-        meshes::run(),
-        building::run(),
-        checking::run(),
-        lists::run(),
-    ];
-    ExitCode::from(u8::from(agree.contains(&false)))
+    let spheres = spheres::all();
+    let mut table = Table::default();
+    roots::run(&mut table);
+    points::shapes(&mut table);
+    points::lists(&mut table, &spheres);
+    meshes::run(&mut table);
+    building::run(&mut table, &spheres);
+    checking::run(&mut table, &spheres);
+    lists::run(&mut table, &spheres);
+    table.print();
+    ExitCode::from(u8::from(table.failed()))
 }
 
-/// The best time of each pass. Their rounds alternate, so that other work on the
+/// The best time of each pass, in seconds. Their rounds alternate, so that other work on the
 /// machine falls on all of them.
-fn best_times<const N: usize>(rounds: usize, mut passes: [&mut dyn FnMut(); N]) -> [Duration; N] {
-    let mut best = [Duration::MAX; N];
+fn best_times<const N: usize>(rounds: usize, mut passes: [&mut dyn FnMut(); N]) -> [f64; N] {
+    let mut best = [f64::INFINITY; N];
     for _ in 0..rounds {
         for (best, pass) in best.iter_mut().zip(&mut passes) {
-            let start = Instant::now();
-            pass();
-            *best = start.elapsed().min(*best);
+            *best = time(pass).min(*best);
         }
     }
     best
 }
 
-/// Prints the times of the engine and of what it is compared with.
-fn print_row(name: &str, engine: Duration, other: &str, csx: Duration) {
-    let print_time = |name: &str, time: Duration| {
-        println!("  {name:<32}{:>10.3} ms", 1e3 * time.as_secs_f64());
-    };
-    println!("{name}");
-    print_time("engine", engine);
-    print_time(other, csx);
-    let ratio = engine.as_secs_f64() / csx.as_secs_f64();
-    println!("  the engine takes {ratio:.3} times {other}");
+/// The best times of the engine and of csx on each subject, in seconds. The rounds of
+/// all subjects alternate, so that their times can be compared too.
+fn best_of_each<S>(
+    rounds: usize,
+    subjects: &mut [S],
+    engine: impl Fn(&mut S),
+    csx: impl Fn(&mut S),
+) -> Vec<[f64; 2]> {
+    let mut best = vec![[f64::INFINITY; 2]; subjects.len()];
+    for _ in 0..rounds {
+        for ([by_engine, by_csx], subject) in best.iter_mut().zip(&mut *subjects) {
+            *by_engine = time(|| engine(subject)).min(*by_engine);
+            *by_csx = time(|| csx(subject)).min(*by_csx);
+        }
+    }
+    best
 }
 
-/// Says so if the answers differ.
-fn agree(agree: bool) -> bool {
-    if !agree {
-        println!("  the answers differ");
-    }
-    agree
-}
-
-/// Says so if the engine is not in time.
-fn in_time(in_time: bool) -> bool {
-    if !in_time {
-        println!("  the engine takes too long");
-    }
-    in_time
+/// How many seconds a pass runs.
+fn time(mut pass: impl FnMut()) -> f64 {
+    let start = clock::seconds();
+    pass();
+    clock::seconds() - start
 }

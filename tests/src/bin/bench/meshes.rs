@@ -10,16 +10,15 @@ use zirwennach_tests::kinds::meshes::inputs::{on_torus, torus};
 use zirwennach_tests::kinds::meshes::welding::{apart_triangles, csx_triangles, torus_triangles};
 use zirwennach_tests::random::Random;
 
-use crate::{agree, best_times, in_time, print_row};
+use crate::best_times;
+use crate::table::{Row, Table};
 
 /// How many rounds are run, of which the best counts.
 const ROUNDS: usize = 100;
 /// The same of welding, which takes long.
 const WELDING_ROUNDS: usize = 5;
 
-/// Prints the times, and answers whether all answers agree and no time is too
-/// long.
-pub fn run() -> bool {
+pub fn run(table: &mut Table) {
     let mut random = Random::new(754);
     println!(
         "Questions 1 to 5, the mesh's box, the edge keys and closedness in one call, \
@@ -29,24 +28,17 @@ pub fn run() -> bool {
     let grid = net.mesh_at(|v| on_torus(208, 312, v));
     net.mix(&mut random);
     let mixed = net.mesh_at(|v| on_torus(208, 312, v));
-    let prepared = [
-        prepare("a torus of 64,896 quads", grid),
-        prepare("the same with numbers and faces mixed", mixed),
-    ];
+    prepare(table, "a torus of 64,896 quads", grid);
+    prepare(table, "the same, numbers and faces mixed", mixed);
     println!("Welding, the best of {WELDING_ROUNDS} interleaved rounds");
-    let welded = [
-        weld(
-            "21,845 triangles, all corners apart",
-            apart_triangles(&mut random),
-        ),
-        weld("a torus of 21,840 triangles", torus_triangles()),
-    ];
-    !prepared.contains(&false) && !welded.contains(&false)
+    let apart = apart_triangles(&mut random);
+    weld(table, "21,845 triangles, all corners apart", apart);
+    weld(table, "a torus of 21,840 triangles", torus_triangles());
 }
 
 /// Times the call beside csx's test of closedness alone, on the same faces. It is
 /// to take no longer.
-fn prepare(name: &str, mut mesh: Mesh) -> bool {
+fn prepare(table: &mut Table, name: &str, mut mesh: Mesh) {
     let faces: Vec<Vec<u32>> = mesh.faces().map(<[_]>::to_vec).collect();
     let mut work = vec![0; mesh.corners.len()];
     let mut out = [0.0; 7];
@@ -60,12 +52,19 @@ fn prepare(name: &str, mut mesh: Mesh) -> bool {
             &mut || closed_by_csx = is_closed(black_box(&faces)),
         ],
     );
-    print_row(name, engine, "csx's is_closed alone", csx);
-    agree(closed == u64::from(closed_by_csx)) && in_time(engine <= csx)
+    table.add(&Row {
+        what: "questions of a mesh, its box and edge keys",
+        inputs: name,
+        engine,
+        beside: "csx's `is_closed` alone",
+        other: csx,
+        most: Some(1.0),
+    });
+    table.agree(closed == u64::from(closed_by_csx));
 }
 
 /// Times welding beside csx's, which also tests closedness and builds its tree.
-fn weld(name: &str, mut triangles: Vec<f64>) -> bool {
+fn weld(table: &mut Table, name: &str, mut triangles: Vec<f64>) {
     let soup = csx_triangles(&triangles);
     let count = soup.len();
     let mut mesh = Mesh {
@@ -87,8 +86,15 @@ fn weld(name: &str, mut triangles: Vec<f64>) -> bool {
             &mut || by_csx = Polyhedron::from_triangles(black_box(&soup)).ok(),
         ],
     );
-    print_row(name, engine, "csx's from_triangles", csx);
-    agree(by_csx.is_some_and(|csx| {
+    table.add(&Row {
+        what: "welding",
+        inputs: name,
+        engine,
+        beside: "csx's `from_triangles`",
+        other: csx,
+        most: None,
+    });
+    table.agree(by_csx.is_some_and(|csx| {
         answer == 0 && sizes == [csx.vertices().len(), csx.faces().len()].map(|n| n as u64)
-    }))
+    }));
 }

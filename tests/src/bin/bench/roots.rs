@@ -2,12 +2,12 @@
 
 use std::hint::black_box;
 use std::ptr;
-use std::time::Duration;
 
 use zirwennach_tests::engine;
 use zirwennach_tests::random::Random;
 
 use crate::best_times;
+use crate::table::{Row, Table};
 
 /// Too many inputs for the processor to learn which branches they take. They are
 /// read in order, so the memory keeps up.
@@ -17,26 +17,23 @@ const ROUNDS: usize = 300;
 
 type Root = extern "C" fn(f64) -> f64;
 
-/// Prints the times, and answers whether all roots agree.
-pub fn run() -> bool {
+pub fn run(table: &mut Table) {
     println!("Square roots, the best of {ROUNDS} interleaved rounds of {INPUTS} independent calls");
     let mut random = Random::new(754);
-    let rows = [
-        row("normal values of any exponent", || random.normal().abs()),
-        row("values between 0.1 and 1000", || {
-            0.1 + 999.9 * random.fraction()
-        }),
-        row("subnormal values of any count of digits", || {
-            random.subnormal().abs()
-        }),
-    ];
-    !rows.contains(&false)
+    row(table, "normal values of any exponent", || {
+        random.normal().abs()
+    });
+    row(table, "values between 0.1 and 1000", || {
+        0.1 + 999.9 * random.fraction()
+    });
+    row(table, "subnormal values of any count of digits", || {
+        random.subnormal().abs()
+    });
 }
 
-/// Prints the times for these inputs, and answers whether the roots agree.
-fn row(name: &str, mut value: impl FnMut() -> f64) -> bool {
+/// Times the roots of these inputs.
+fn row(table: &mut Table, name: &str, mut value: impl FnMut() -> f64) {
     let inputs: Vec<f64> = (0..INPUTS).map(|_| value()).collect();
-    let agree = called(engine::csx_root, &inputs) == inlined(&inputs);
     let [engine, hardware, inline] = best_times(
         ROUNDS,
         [
@@ -50,28 +47,18 @@ fn row(name: &str, mut value: impl FnMut() -> f64) -> bool {
                 black_box(inlined(&inputs));
             },
         ],
-    );
-    println!("{name}");
-    print_time("root, called", engine);
-    print_time("hardware's instruction, called", hardware);
-    print_time("hardware's instruction, inlined", inline);
-    println!(
-        "  root takes {:.2} times the hardware's instruction",
-        engine.as_secs_f64() / hardware.as_secs_f64()
-    );
-    if !agree {
-        println!("  the roots differ");
-    }
-    agree
-}
-
-fn print_time(name: &str, time: Duration) {
-    let each = time.as_secs_f64() / INPUTS as f64;
-    println!(
-        "  {name:<32}{:>8.2} ns{:>9.1} million a second",
-        each * 1e9,
-        1e-6 / each
-    );
+    )
+    .map(|time| time / INPUTS as f64);
+    table.add(&Row {
+        what: "a square root",
+        inputs: name,
+        engine,
+        beside: "the hardware's instruction, called",
+        other: hardware,
+        most: None,
+    });
+    println!("  the instruction inlined: {:.3} ns", 1e9 * inline);
+    table.agree(called(engine::csx_root, &inputs) == inlined(&inputs));
 }
 
 #[inline(never)]

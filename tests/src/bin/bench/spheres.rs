@@ -8,17 +8,29 @@ use zirwennach_tests::kinds::meshes::Mesh;
 use zirwennach_tests::kinds::meshes::inputs::Net;
 use zirwennach_tests::random::Random;
 
-/// The two that trees are timed on, with their names.
-pub fn both() -> [(&'static str, Mesh); 2] {
-    [
-        ("a sphere of 20,480 triangles", icosphere(5)),
-        ("a sphere of 64,896 quads", cube_sphere(104)),
-    ]
+/// A sphere, with its name.
+pub struct Sphere {
+    pub name: &'static str,
+    pub mesh: Mesh,
 }
 
-/// A smaller one that lists are timed on too.
-pub fn small() -> (&'static str, Mesh) {
-    ("a sphere of 1,280 triangles", icosphere(3))
+impl Sphere {
+    pub fn triangles(&self) -> usize {
+        self.mesh.triangle_count()
+    }
+}
+
+/// The spheres, from the smallest on. The next one of triangles would have too many
+/// faces, so the larger ones have quads.
+pub fn all() -> [Sphere; 5] {
+    [
+        ("a sphere of 1,280 triangles", icosphere(3)),
+        ("a sphere of 5,120 triangles", icosphere(4)),
+        ("a sphere of 20,480 triangles", icosphere(5)),
+        ("a sphere of 41,334 quads", cube_sphere(83)),
+        ("a sphere of 64,896 quads", cube_sphere(104)),
+    ]
+    .map(|(name, mesh)| Sphere { name, mesh })
 }
 
 /// How many points are asked about.
@@ -132,14 +144,13 @@ mod tests {
 
     #[test]
     fn spheres_are_closed() {
-        let [large, largest] = both();
-        let spheres = [small(), large, largest];
-        for ((_, mesh), triangles) in spheres.iter().zip([1_280, 20_480, 129_792]) {
-            let csx = mesh.csx().expect("an accepted mesh");
-            assert_eq!(csx.triangles().len(), triangles);
+        for (sphere, triangles) in all().iter().zip([1_280, 5_120, 20_480, 82_668, 129_792]) {
+            let csx = sphere.mesh.csx().expect("an accepted mesh");
+            assert_eq!(sphere.triangles(), triangles);
             assert!(csx.is_closed());
             let bounds = csx.bounding_box();
-            assert_eq!([bounds.min.0, bounds.max.0], [[-1.0; 3], [1.0; 3]]);
+            assert!(bounds.min.0.iter().all(|x| (-1.0..-0.99).contains(x)));
+            assert!(bounds.max.0.iter().all(|x| (0.99..=1.0).contains(x)));
         }
     }
 }
