@@ -13,6 +13,8 @@ pub mod remainder;
 pub mod root;
 pub mod root_inputs;
 pub mod rules;
+#[cfg(feature = "port")]
+pub mod sample;
 pub mod shapes;
 pub mod trees;
 mod turns;

@@ -6,11 +6,11 @@ pub mod cases;
 pub(super) mod changes;
 mod curve;
 pub mod edges;
-pub(super) mod expected;
+pub mod expected;
 mod numbers;
 mod poly;
 pub mod refusals;
-mod turns;
+pub(super) mod turns;
 #[cfg(test)]
 mod wrong_engines;
 

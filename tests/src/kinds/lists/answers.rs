@@ -58,7 +58,7 @@ pub(super) fn any_case(count: usize, random: &mut Random) -> (Mesh, Vec<Point>) 
 /// A mesh of this sort and points for it. Some meshes are cut into triangles, some
 /// have their faces and numbers mixed, some have a corner at the origin, where
 /// distances have the most digits, and some have zeros of either sign.
-fn case(sort: &Sort, count: usize, random: &mut Random) -> (Mesh, Vec<Point>) {
+pub(in crate::kinds) fn case(sort: &Sort, count: usize, random: &mut Random) -> (Mesh, Vec<Point>) {
     let mut mesh = (sort.mesh)(random);
     if random.below(4) == 0 {
         mesh = mesh.with_faces(triangles(&mesh));

@@ -66,12 +66,17 @@ pub fn answer(csx: &Polyhedron, mesh: &Prepared, p: Vec3, want: u64) -> (u64, &'
     if cfg!(feature = "port") || by_rule(csx, mesh, p, false, false) != given {
         return (given, UNEXPLAINED);
     }
-    let explains =
-        |(_, own_box, undecided): &&Entry| by_rule(csx, mesh, p, *own_box, *undecided) == want;
-    match ENTRIES.iter().find(explains) {
-        Some((name, ..)) => (want, name),
+    match entry(csx, mesh, p, want) {
+        Some(name) => (want, name),
         None => (given, UNEXPLAINED),
     }
+}
+
+/// The first entry of the closed list with which csx's rule gives this answer.
+pub fn entry(csx: &Polyhedron, mesh: &Prepared, p: Vec3, want: u64) -> Option<&'static str> {
+    let explains =
+        |(_, own_box, undecided): &&Entry| by_rule(csx, mesh, p, *own_box, *undecided) == want;
+    ENTRIES.iter().find(explains).map(|(name, ..)| *name)
 }
 
 /// csx's rule over its tree, with each of the two entries applied or not.

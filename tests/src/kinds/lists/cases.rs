@@ -15,13 +15,13 @@ use crate::plan::Plan;
 use crate::report::{Kind, Report, Value};
 
 /// A point of a mesh of cubes, and its answer.
-struct Case {
+pub(in crate::kinds) struct Case {
     /// Each cube runs from a number to another along every axis.
-    cubes: &'static [(f64, f64)],
-    point: Point,
-    answer: u64,
+    pub cubes: &'static [(f64, f64)],
+    pub point: Point,
+    pub answer: u64,
     /// What csx's answer is explained by without the feature `port`.
-    entry: &'static str,
+    pub entry: &'static str,
     shows: Shown,
 }
 
@@ -83,7 +83,7 @@ const TINY: &[(f64, f64)] = &[(0.0, 1e-300)];
 const LARGE: &[(f64, f64)] = &[(0.0, 1e105)];
 const HUGE: &[(f64, f64)] = &[(0.0, 1e154)];
 
-const CASES: [Case; 11] = [
+pub(in crate::kinds) const CASES: [Case; 11] = [
     Case {
         cubes: UNIT,
         point: [0.25, 0.5, 0.625],
@@ -208,7 +208,7 @@ const CASES: [Case; 11] = [
 ];
 
 /// The mesh of these cubes.
-fn mesh(cubes: &[(f64, f64)]) -> Mesh {
+pub(in crate::kinds) fn mesh(cubes: &[(f64, f64)]) -> Mesh {
     let mut mesh = Mesh::default();
     for (from, to) in cubes {
         let cube = unit_cube();

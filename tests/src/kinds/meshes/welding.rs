@@ -38,7 +38,7 @@ impl Room {
         }
     }
 
-    fn lengths_mut(&mut self) -> [&mut usize; 4] {
+    pub fn lengths_mut(&mut self) -> [&mut usize; 4] {
         [
             &mut self.coords,
             &mut self.corners,
@@ -103,7 +103,7 @@ pub fn csx_triangles(triangles: &[f64]) -> Vec<[Vec3; 3]> {
 }
 
 /// The mesh that csx makes, if the corners are finite.
-fn by_csx(triangles: &[f64]) -> Option<Mesh> {
+pub(in crate::kinds) fn by_csx(triangles: &[f64]) -> Option<Mesh> {
     let csx = Polyhedron::from_triangles(&csx_triangles(triangles)).ok()?;
     let mut mesh = Mesh::default();
     mesh.coords.extend(csx.vertices().iter().flat_map(|v| v.0));
@@ -220,12 +220,19 @@ const NEEDED: [&str; 7] = [
 
 /// Counts what an accepted list has.
 fn see(line: &mut Line, triangles: &[f64], mesh: &Mesh) {
-    line.see("welded");
+    for what in shown(triangles, mesh) {
+        line.see(what);
+    }
+}
+
+/// What an accepted list has.
+pub(in crate::kinds) fn shown(triangles: &[f64], mesh: &Mesh) -> Vec<&'static str> {
+    let mut shown = vec!["welded"];
     if mesh.coords.len() < triangles.len() {
-        line.see("a corner found again");
+        shown.push("a corner found again");
     }
     if mesh.ends.len() < triangles.len() / 9 {
-        line.see("a triangle dropped");
+        shown.push("a triangle dropped");
     }
     let other_zero = |p: &Point| {
         let same = |v: &Point| v.map(f64::to_bits) == p.map(f64::to_bits);
@@ -233,8 +240,9 @@ fn see(line: &mut Line, triangles: &[f64], mesh: &Mesh) {
     };
     // The search is slow, and a short list is enough.
     if triangles.len() < 1000 && triangles.as_chunks().0.iter().any(other_zero) {
-        line.see("a zero of the other sign found");
+        shown.push("a zero of the other sign found");
     }
+    shown
 }
 
 pub(in crate::kinds) fn text(triangles: &[f64], room: Room) -> String {

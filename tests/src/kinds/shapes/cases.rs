@@ -54,7 +54,8 @@ fn long_lists(report: &mut Report, plan: &Plan, form: &Form, asker: &mut Asker) 
     line.add_to(report, form.answers());
 }
 
-fn random_case(form: &Form, random: &mut Random) -> Case {
+/// A case of any magnitude, at times with some numbers replaced.
+pub(in crate::kinds) fn random_case(form: &Form, random: &mut Random) -> Case {
     let entries = entries(random);
     let mut case = (form.case)(random, entries);
     rescale(&mut case, random);

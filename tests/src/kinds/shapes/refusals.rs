@@ -111,7 +111,12 @@ fn points(form: &Form, entries: usize, random: &mut Random, ask: &mut impl FnMut
 
 /// Every set of faults: a list with a part of an entry, a number of the shape, a
 /// number of the list and a coordinate of the point that are not finite.
-fn together(form: &Form, entries: usize, random: &mut Random, ask: &mut impl FnMut(Case)) {
+pub(in crate::kinds) fn together(
+    form: &Form,
+    entries: usize,
+    random: &mut Random,
+    ask: &mut impl FnMut(Case),
+) {
     for faults in 0..16 {
         let mut case = form.small_case(random, entries);
         if faults & 1 != 0 && form.width > 0 {

@@ -159,7 +159,7 @@ pub(in crate::kinds) fn refused(mesh: &Mesh, room: Room) -> Option<u64> {
 }
 
 /// What sort of tree it is: what csx leaves open of it, if anything.
-fn sort(built: &Built) -> &'static str {
+pub(in crate::kinds) fn sort(built: &Built) -> &'static str {
     match built {
         Built { tree, .. } if tree.node_count() == 0 => "no triangles",
         Built { tree, .. } if tree.node_count() == 1 => "one leaf",
@@ -170,7 +170,7 @@ fn sort(built: &Built) -> &'static str {
 }
 
 /// The tree that csx builds of an accepted mesh.
-fn csx_tree(mesh: &Mesh) -> Tree {
+pub(in crate::kinds) fn csx_tree(mesh: &Mesh) -> Tree {
     let bvh = mesh.csx().expect("an accepted mesh").bvh;
     let mut tree = Tree {
         items: bvh.items,
