@@ -1,6 +1,6 @@
 # run: the main job. test: the gate. picture: a section through a part. compare: the large comparison.
 # load: a million calls with random bytes. bench: ratios of speed. install: the program point-list.
-.PHONY: run test picture compare load bench install archives
+.PHONY: run test picture compare compare-published compare-port load bench install archives
 
 PREFIX ?= /usr/local
 VIEWER_FLAGS = -std=c++17 -O2 -Wall -Wextra -Wpedantic -Wconversion -Wshadow -Werror
@@ -22,9 +22,18 @@ target/viewer: archives
 picture: target/viewer
 	target/viewer picture docs/section.png
 
+# Both forms at once, one on each core. -O prints the output of each when it ends.
 compare: archives
-	cd tests && cargo run --offline --locked --release --bin compare -- large
-	cd tests && cargo run --offline --locked --release --features port --bin compare -- large
+	cd tests && cargo build --offline --locked --release --bin compare --bin summary
+	cd tests && cargo build --offline --locked --release --bin compare --features port --target-dir target/port
+	$(MAKE) --no-print-directory -j 2 -O compare-published compare-port
+	tests/target/release/summary tests/target/published.counts tests/target/port.counts docs/COMPARISON.md
+
+compare-published:
+	tests/target/release/compare large --counts tests/target/published.counts
+
+compare-port:
+	tests/target/port/release/compare large --counts tests/target/port.counts
 
 load: archives
 	cd tests && cargo build --offline --locked --release --features port --bin load

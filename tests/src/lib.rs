@@ -7,4 +7,5 @@ pub mod plan;
 pub mod program;
 pub mod random;
 pub mod report;
+pub mod summary;
 pub mod whole;

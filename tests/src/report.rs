@@ -146,7 +146,14 @@ impl<A: Ord + fmt::Display> Line<A> {
 
     /// Counts an answer that was expected.
     pub fn see(&mut self, answer: impl Into<A>) {
-        *self.expected.entry(answer.into()).or_default() += 1;
+        self.see_times(answer, 1);
+    }
+
+    /// Counts an answer that was expected so many times, if it was.
+    pub fn see_times(&mut self, answer: impl Into<A>, times: u64) {
+        if times > 0 {
+            *self.expected.entry(answer.into()).or_default() += times;
+        }
     }
 
     /// Adds the line to the report. It fails if one of these answers was never
@@ -159,14 +166,25 @@ impl<A: Ord + fmt::Display> Line<A> {
             }
         }
         report.add(self.kind);
-        let counts: Vec<String> = self
-            .expected
-            .iter()
-            .map(|(answer, times)| format!("{answer} {times}"))
-            .collect();
+        let mut counts = Vec::new();
+        for (answer, times) in self.expected {
+            counts.push(format!("{answer} {times}"));
+            report.count(answer.to_string(), times);
+        }
         report.note(format_args!("expected: {}", counts.join(", ")));
     }
 }
+
+/// What some kinds are about, and their sums.
+#[derive(Clone, Debug, PartialEq)]
+pub struct Subject {
+    pub name: String,
+    pub compared: u64,
+    pub differed: u64,
+}
+
+/// How often something was expected or seen, by its name.
+pub type Counts = BTreeMap<String, u64>;
 
 /// The sums of the table. Each kind is printed as it is added.
 #[derive(Default)]
@@ -175,6 +193,8 @@ pub struct Report {
     compared: u64,
     differed: u64,
     lacking: u64,
+    subjects: Vec<Subject>,
+    counts: Counts,
 }
 
 impl Report {
@@ -184,12 +204,46 @@ impl Report {
         Self::default()
     }
 
+    /// Says what the kinds are about that are added from here on.
+    pub fn begin(&mut self, subject: &str) {
+        self.subjects.push(Subject {
+            name: subject.to_string(),
+            compared: 0,
+            differed: 0,
+        });
+    }
+
     pub fn add(&mut self, kind: Kind) {
         println!("{kind}");
         self.kinds += 1;
         self.compared += kind.compared;
         self.differed += kind.differed;
         self.lacking += u64::from(kind.compared == 0 || !kind.missing.is_empty());
+        if let Some(subject) = self.subjects.last_mut() {
+            subject.compared += kind.compared;
+            subject.differed += kind.differed;
+        }
+    }
+
+    /// Adds to what is counted under a name.
+    pub fn count(&mut self, name: impl Into<String>, times: u64) {
+        *self.counts.entry(name.into()).or_default() += times;
+    }
+
+    /// Fails the report if nothing was counted under this name.
+    pub fn need(&mut self, name: &str) {
+        if self.counts.get(name).is_none_or(|times| *times == 0) {
+            println!("never counted: {name}");
+            self.lacking += 1;
+        }
+    }
+
+    pub fn subjects(&self) -> &[Subject] {
+        &self.subjects
+    }
+
+    pub fn counts(&self) -> &Counts {
+        &self.counts
     }
 
     /// Prints a count that is no comparison.
@@ -276,12 +330,52 @@ mod tests {
             let mut line: Line<String> = Line::new("test");
             line.kind.compare(&[1.0], 2.0, 2.0);
             line.see("inside");
+            line.see_times("undecided", 0);
             let mut report = Report::new();
             line.add_to(&mut report, &[needed]);
             report.failed()
         };
         assert!(!fails("inside"));
         assert!(fails("outside"));
+        assert!(fails("undecided"));
+    }
+
+    #[test]
+    fn a_name_that_was_never_counted_fails() {
+        let fails = |counts: &[u64]| {
+            let mut report = report_of(kind_of(2.0, 2.0));
+            counts.iter().for_each(|times| report.count("seen", *times));
+            report.need("seen");
+            report.failed()
+        };
+        assert!(fails(&[]));
+        assert!(fails(&[0]));
+        assert!(!fails(&[0, 3]));
+    }
+
+    #[test]
+    fn kinds_are_summed_by_subject() {
+        let mut report = Report::new();
+        report.begin("one");
+        report.add(kind_of(2.0, 2.0));
+        report.add(kind_of(2.0, 3.0));
+        report.begin("another");
+        report.add(kind_of(2.0, 2.0));
+        let sums = |s: &Subject| (s.name.clone(), s.compared, s.differed);
+        let found: Vec<_> = report.subjects().iter().map(sums).collect();
+        assert_eq!(found, [("one".into(), 2, 1), ("another".into(), 1, 0)]);
+    }
+
+    #[test]
+    fn what_a_line_expected_is_counted() {
+        let mut report = Report::new();
+        for _ in 0..2 {
+            let mut line: Line<String> = Line::new("test");
+            line.kind.compare(&[1.0], 2.0, 2.0);
+            line.see("inside");
+            line.add_to(&mut report, &["inside"]);
+        }
+        assert_eq!(report.counts()["inside"], 2);
     }
 
     #[test]

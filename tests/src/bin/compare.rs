@@ -1,6 +1,7 @@
 //! Compares the engine's answers with others. See README.md.
 
 use std::env;
+use std::fs;
 use std::process::ExitCode;
 
 use zirwennach_tests::engine;
@@ -9,76 +10,169 @@ use zirwennach_tests::kinds::{
 };
 use zirwennach_tests::plan::{DEFAULT_SEED, Plan};
 use zirwennach_tests::report::Report;
+use zirwennach_tests::summary::{Run, need_all};
+
+/// Whether csx has the changes of the closed list.
+const PORT: bool = cfg!(feature = "port");
+
+/// What is asked for: the size by its name, and the file for the counts.
+struct Asked<'a> {
+    size: &'a str,
+    plan: Plan,
+    counts: Option<&'a str>,
+}
 
 fn main() -> ExitCode {
     let arguments: Vec<String> = env::args().skip(1).collect();
-    let Some(plan) = plan_of(&arguments) else {
-        eprintln!("usage: compare quick|large [SEED]");
+    let arguments: Vec<&str> = arguments.iter().map(|argument| &argument[..]).collect();
+    let Some(asked) = asked(&arguments) else {
+        eprintln!("usage: compare quick|large [SEED] [--counts FILE]");
         return ExitCode::from(2);
     };
-    let form = if cfg!(feature = "port") {
-        "with"
-    } else {
-        "without"
-    };
-    println!(
-        "compare {}, seed {}, csx {form} the feature port",
-        arguments[0],
-        plan.seed()
-    );
-    run(&plan).finish()
+    // Left empty by a run that fails.
+    if let Err(error) = write(&asked, "") {
+        return error;
+    }
+    let form = if PORT { "with" } else { "without" };
+    let (size, seed) = (asked.size, asked.plan.seed());
+    println!("compare {size}, seed {seed}, csx {form} the feature port");
+    let report = run(&asked.plan);
+    if !report.failed()
+        && let Err(error) = write(&asked, &counted(&asked, &report).text())
+    {
+        return error;
+    }
+    report.finish()
 }
 
-/// The plan that the arguments ask for, if they are right.
-fn plan_of(arguments: &[String]) -> Option<Plan> {
+/// What the arguments ask for, if they are right.
+fn asked<'a>(arguments: &[&'a str]) -> Option<Asked<'a>> {
+    let (arguments, counts) = match arguments {
+        [front @ .., "--counts", path] => (front, Some(*path)),
+        all => (all, None),
+    };
     let (size, seed) = match arguments {
-        [size] => (size, DEFAULT_SEED),
-        [size, seed] => (size, seed.parse().ok()?),
+        [size] => (*size, DEFAULT_SEED),
+        [size, seed] => (*size, seed.parse().ok()?),
         _ => return None,
     };
-    match size.as_str() {
-        "quick" => Some(Plan::quick(seed)),
-        "large" => Some(Plan::large(seed)),
-        _ => None,
+    let plan = match size {
+        "quick" => Plan::quick(seed),
+        "large" => Plan::large(seed),
+        _ => return None,
+    };
+    Some(Asked { size, plan, counts })
+}
+
+/// Writes the file for the counts, if one is asked for.
+fn write(asked: &Asked, text: &str) -> Result<(), ExitCode> {
+    let Some(path) = asked.counts else {
+        return Ok(());
+    };
+    fs::write(path, text).map_err(|error| {
+        eprintln!("{path}: {error}");
+        ExitCode::from(2)
+    })
+}
+
+fn counted(asked: &Asked, report: &Report) -> Run {
+    Run {
+        size: asked.size.to_string(),
+        seed: asked.plan.seed(),
+        port: PORT,
+        subjects: report.subjects().to_vec(),
+        counts: report.counts().clone(),
     }
 }
 
+/// The kinds on a subject.
+type Kinds = fn(&mut Report, &Plan);
+
+const SUBJECTS: [(&str, Kinds); 9] = [
+    ("square root", square_root),
+    ("number functions", number_functions),
+    ("shapes", all_shapes),
+    ("meshes", all_meshes),
+    ("welding", welding),
+    ("trees built", trees_built),
+    ("trees checked", trees_checked),
+    ("lists", all_lists),
+    ("column texts", column_texts),
+];
+
 fn run(plan: &Plan) -> Report {
     let mut report = Report::new();
-    root::published(&mut report, engine::root);
-    root::compare(&mut report, plan, engine::root);
-    corrections::compare(&mut report, plan, &engine::SIGNIFICAND);
-    rules::min(&mut report, plan, engine::min);
-    rules::max(&mut report, plan, engine::max);
-    rules::abs(&mut report, plan, engine::abs);
-    rules::clamp(&mut report, plan, engine::clamp);
-    rules::is_finite(&mut report, plan, engine::is_finite);
-    remainder::compare(&mut report, plan, engine::rem_euclid);
-    order::compare(&mut report, plan, engine::order_key);
-    shapes::edges::compare(&mut report, engine::answer);
-    shapes::cases::compare(&mut report, plan, engine::answer);
-    shapes::refusals::compare(&mut report, plan, engine::answer);
-    meshes::questions::compare(&mut report, plan, engine::meshes::mesh);
-    meshes::questions::limits(&mut report, plan, engine::meshes::mesh);
-    meshes::triangles::compare(&mut report, plan, engine::meshes::triangles);
-    meshes::triangles::large(&mut report, plan, engine::meshes::triangles);
-    meshes::boxes::compare(&mut report, plan, engine::meshes::boxes);
-    meshes::boxes::large(&mut report, plan, engine::meshes::boxes);
-    meshes::keys::compare(&mut report, plan, engine::meshes::edge_keys);
-    meshes::keys::large(&mut report, plan, engine::meshes::edge_keys);
-    meshes::welding::compare(&mut report, plan, engine::meshes::from_triangles);
-    meshes::welding::limits(&mut report, plan, engine::meshes::from_triangles);
-    trees::building::compare(&mut report, plan, engine::trees::build);
-    trees::building::large(&mut report, plan, engine::trees::build);
-    trees::checking::compare(&mut report, plan, engine::trees::check);
-    trees::checking::large(&mut report, plan, engine::trees::check);
-    lists::cases::compare(&mut report, plan, engine::lists::contains);
-    lists::answers::compare(&mut report, plan, engine::lists::contains);
-    lists::answers::large(&mut report, plan, engine::lists::contains);
-    lists::rewritings::compare(&mut report, plan, engine::lists::contains);
-    lists::refusals::compare(&mut report, plan, engine::lists::contains);
-    columns::changes::compare(&mut report, plan, engine::columns::point_list);
-    columns::limits::compare(&mut report, plan, engine::columns::point_list);
-    columns::answers::compare(&mut report, plan, engine::columns::point_list);
+    for (subject, kinds) in SUBJECTS {
+        report.begin(subject);
+        kinds(&mut report, plan);
+    }
+    need_all(&mut report, PORT);
     report
+}
+
+fn square_root(report: &mut Report, plan: &Plan) {
+    root::edges(report, engine::root);
+    root::published(report, engine::root);
+    root::compare(report, plan, engine::root);
+    corrections::compare(report, plan, &engine::SIGNIFICAND);
+}
+
+fn number_functions(report: &mut Report, plan: &Plan) {
+    rules::min(report, plan, engine::min);
+    rules::max(report, plan, engine::max);
+    rules::abs(report, plan, engine::abs);
+    rules::clamp(report, plan, engine::clamp);
+    rules::is_finite(report, plan, engine::is_finite);
+    remainder::compare(report, plan, engine::rem_euclid);
+    order::compare(report, plan, engine::order_key);
+}
+
+fn all_shapes(report: &mut Report, plan: &Plan) {
+    shapes::edges::compare(report, engine::answer);
+    shapes::cases::compare(report, plan, engine::answer);
+    shapes::hypot::compare(report, plan, engine::answer);
+    shapes::refusals::compare(report, plan, engine::answer);
+}
+
+fn all_meshes(report: &mut Report, plan: &Plan) {
+    meshes::edges::closed(report, engine::meshes::edge_keys);
+    meshes::edges::vertices(report, engine::meshes::mesh);
+    meshes::questions::compare(report, plan, engine::meshes::mesh);
+    meshes::questions::limits(report, plan, engine::meshes::mesh);
+    meshes::triangles::compare(report, plan, engine::meshes::triangles);
+    meshes::triangles::large(report, plan, engine::meshes::triangles);
+    meshes::boxes::compare(report, plan, engine::meshes::boxes);
+    meshes::boxes::large(report, plan, engine::meshes::boxes);
+    meshes::keys::compare(report, plan, engine::meshes::edge_keys);
+    meshes::keys::large(report, plan, engine::meshes::edge_keys);
+}
+
+fn welding(report: &mut Report, plan: &Plan) {
+    meshes::welding::compare(report, plan, engine::meshes::from_triangles);
+    meshes::welding::limits(report, plan, engine::meshes::from_triangles);
+}
+
+fn trees_built(report: &mut Report, plan: &Plan) {
+    trees::edges::compare(report, engine::trees::build);
+    trees::building::compare(report, plan, engine::trees::build);
+    trees::building::large(report, plan, engine::trees::build);
+}
+
+fn trees_checked(report: &mut Report, plan: &Plan) {
+    trees::checking::compare(report, plan, engine::trees::check);
+    trees::checking::large(report, plan, engine::trees::check);
+}
+
+fn all_lists(report: &mut Report, plan: &Plan) {
+    lists::cases::compare(report, plan, engine::lists::contains);
+    lists::answers::compare(report, plan, engine::lists::contains);
+    lists::answers::large(report, plan, engine::lists::contains);
+    lists::rewritings::compare(report, plan, engine::lists::contains);
+    lists::refusals::compare(report, plan, engine::lists::contains);
+}
+
+fn column_texts(report: &mut Report, plan: &Plan) {
+    columns::changes::compare(report, plan, engine::columns::point_list);
+    columns::limits::compare(report, plan, engine::columns::point_list);
+    columns::answers::compare(report, plan, engine::columns::point_list);
 }

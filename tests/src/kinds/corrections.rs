@@ -78,7 +78,7 @@ fn any_digits(report: &mut Report, plan: &Plan, steps: &Significand) {
     for k in 0..64 {
         around_power(k).for_each(&mut check);
     }
-    for _ in 0..plan.times(10_000_000) {
+    for _ in 0..plan.values(10_000_000) {
         check(random.up_to_digits(64));
     }
     report.add(kind);
@@ -90,7 +90,7 @@ fn near_guesses(report: &mut Report, plan: &Plan, steps: &Significand) {
     let mut found = Kind::new("settle, 1 or 2 below the root");
     let mut other = Kind::new("settle, 3 or 4 below, at and above the root");
     let mut random = plan.random("near guesses");
-    for _ in 0..plan.times(5_000_000) {
+    for _ in 0..plan.values(5_000_000) {
         let w = whole(random.bits() & DIGITS, random.below(2));
         let q = nearest_root(w);
         for p in [q - 2, q - 1] {
@@ -120,7 +120,7 @@ fn bad_guesses(report: &mut Report, plan: &Plan, steps: &Significand) {
                 .for_each(|w: u64| check(p, w));
         }
     }
-    for _ in 0..plan.times(10_000_000) {
+    for _ in 0..plan.values(10_000_000) {
         let (p, w) = bad_guess(&mut random);
         check(p, w);
     }

@@ -2,7 +2,7 @@
 //! plain scan of document 01 and against csx.
 
 pub mod answers;
-pub(super) mod by_csx;
+pub mod by_csx;
 pub mod cases;
 pub(super) mod expected;
 pub(super) mod inputs;
@@ -15,7 +15,7 @@ mod wrong_engines;
 use csx::{Polyhedron, Vec3};
 
 use self::expected::{Prepared, refusal};
-use super::answer::Answer;
+use super::answer::{Answer, INSIDE, OUTSIDE, UNDECIDED};
 use super::lent::{Lent, cut};
 use super::meshes::expected::{Bounds, edge_keys};
 use super::meshes::triangles::sides;
@@ -165,8 +165,9 @@ impl<'a> Subject<'a> {
 
 /// Counts the answers that were expected.
 pub(super) fn see_answers(line: &mut Line, answers: &[u8]) {
-    for answer in answers {
-        line.see(Answer(u64::from(*answer)).to_string());
+    for answer in [OUTSIDE, INSIDE, UNDECIDED] {
+        let these = answers.iter().filter(|a| u64::from(**a) == answer);
+        line.see_times(Answer(answer).to_string(), these.count() as u64);
     }
 }
 

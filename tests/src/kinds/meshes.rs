@@ -2,6 +2,7 @@
 //! welding, against csx and against document 01.
 
 pub mod boxes;
+pub mod edges;
 pub(super) mod expected;
 pub mod inputs;
 pub mod keys;
@@ -245,6 +246,14 @@ impl Line {
             self.see(format!("refusal {}", want / REFUSAL));
         }
     }
+
+    /// The same with what csx says of a call that was counted already.
+    fn compare_csx(&mut self, got: Outcome, want: u64, input: impl Fn() -> String) {
+        self.kind.compare_for(got, Outcome::answered(want), input);
+        if want >= REFUSAL {
+            self.see(format!("refused by csx, {}", want / REFUSAL));
+        }
+    }
 }
 
 /// A function under test, and the lines that it is compared in.
@@ -286,12 +295,14 @@ pub(super) fn take_zeros(csx: &mut [f64], engine: &[f64]) -> u64 {
     changes
 }
 
-/// Prints how many there were.
-pub(super) fn note_zeros(report: &Report, zeros: u64) {
+/// What is counted of the zeros of boxes.
+pub const OTHER_ZEROS: &str = "zeros to which csx gives the other sign";
+
+/// Prints and counts how many there were.
+pub(super) fn note_zeros(report: &mut Report, zeros: u64) {
     if !cfg!(feature = "port") {
-        report.note(format_args!(
-            "zeros to which csx gives the other sign: {zeros}, a listed difference"
-        ));
+        report.note(format_args!("{OTHER_ZEROS}: {zeros}, a listed difference"));
+        report.count(OTHER_ZEROS, zeros);
     }
 }
 

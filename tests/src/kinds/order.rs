@@ -8,7 +8,7 @@ pub fn compare(report: &mut Report, plan: &Plan, key: impl Fn(f64) -> u64) {
     let mut numbers = Kind::new("order_key, total_cmp of numbers");
     let mut nans = Kind::new("order_key, a NaN has the largest");
     let mut above = Kind::new("order_key, a number is below a NaN");
-    for (a, b) in pairs(plan, "order_key", plan.times(25_000_000)) {
+    for (a, b) in pairs(plan, "order_key", plan.values(25_000_000)) {
         match (a.is_nan(), b.is_nan()) {
             (false, false) => {
                 numbers.compare(&[a, b], key(a).cmp(&key(b)), a.total_cmp(&b));

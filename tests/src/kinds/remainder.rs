@@ -12,8 +12,8 @@ pub fn compare(report: &mut Report, plan: &Plan, rem_euclid: impl Fn(f64, f64) -
     let mut rust = Kind::new("rem_euclid, Rust");
     let mut exact = Kind::new("rem_euclid, whole numbers");
     let mut random = plan.random("remainders");
-    let chosen = (0..plan.times(8_000_000)).map(move |_| operands(&mut random));
-    for (a, b) in pairs(plan, "rem_euclid", plan.times(4_000_000)).chain(chosen) {
+    let chosen = (0..plan.values(8_000_000)).map(move |_| operands(&mut random));
+    for (a, b) in pairs(plan, "rem_euclid", plan.values(4_000_000)).chain(chosen) {
         let got = rem_euclid(a, b);
         rust.compare(&[a, b], got, a.rem_euclid(b));
         exact.compare(&[a, b], got, expected(a, b));

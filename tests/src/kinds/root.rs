@@ -7,6 +7,14 @@ use crate::report::{Kind, Report};
 /// Published inputs and roots.
 const VECTORS: &str = include_str!("../../../crates/root_vectors/stdin");
 
+/// The roots of document 01's table 'Edges of the rules'.
+const EDGES: [(f64, f64); 3] = [
+    (4.0, 2.0),
+    // 2^-1074 and 2^-537
+    (f64::from_bits(1), f64::from_bits(486 << 52)),
+    (2.0, f64::from_bits(0x3FF6_A09E_667F_3BCD)),
+];
+
 /// Compares with `f64::sqrt`, a line for each kind of input.
 pub fn compare(report: &mut Report, plan: &Plan, root: impl Fn(f64) -> f64) {
     for inputs in root_inputs::all(plan) {
@@ -18,13 +26,33 @@ pub fn compare(report: &mut Report, plan: &Plan, root: impl Fn(f64) -> f64) {
     }
 }
 
-/// Compares with the published roots. Rust's own are compared too: they are
-/// what the other kinds rest on.
+/// Compares with the published roots.
 pub fn published(report: &mut Report, root: impl Fn(f64) -> f64) {
-    let mut kind = Kind::new("root, published vectors");
-    let mut rust = Kind::new("Rust's sqrt, published vectors");
-    for line in VECTORS.lines().filter(|line| !line.starts_with('#')) {
-        let (x, want) = vector(line).expect("two bit patterns in hexadecimal");
+    let lines = VECTORS.lines().filter(|line| !line.starts_with('#'));
+    let vectors = lines.map(|line| vector(line).expect("two bit patterns in hexadecimal"));
+    let names = ["root, published vectors", "Rust's sqrt, published vectors"];
+    known(report, names, vectors, root);
+}
+
+/// Compares with document 01's roots.
+pub fn edges(report: &mut Report, root: impl Fn(f64) -> f64) {
+    let names = [
+        "document 01's cases, roots",
+        "document 01's cases, roots, Rust",
+    ];
+    known(report, names, EDGES, root);
+}
+
+/// Compares with roots that are known. Rust's own are compared too: they are what
+/// the other kinds rest on.
+fn known(
+    report: &mut Report,
+    names: [&str; 2],
+    roots: impl IntoIterator<Item = (f64, f64)>,
+    root: impl Fn(f64) -> f64,
+) {
+    let [mut kind, mut rust] = names.map(Kind::new);
+    for (x, want) in roots {
         kind.compare(&[x], root(x), want);
         rust.compare(&[x], x.sqrt(), want);
     }
@@ -46,7 +74,7 @@ fn float(digits: &str) -> Option<f64> {
 mod tests {
     use super::*;
     use crate::kinds::tests;
-    use crate::random::moved;
+    use crate::random::{moved, power_of_two};
 
     fn fails(root: impl Fn(f64) -> f64) -> bool {
         tests::fails(|report, plan| compare(report, plan, root))
@@ -56,10 +84,15 @@ mod tests {
         tests::fails(|report, _| published(report, root))
     }
 
+    fn edges_fail(root: impl Fn(f64) -> f64) -> bool {
+        tests::fails(|report, _| edges(report, root))
+    }
+
     #[test]
     fn the_right_root_passes() {
         assert!(!fails(f64::sqrt));
         assert!(!published_fails(f64::sqrt));
+        assert!(!edges_fail(f64::sqrt));
     }
 
     #[test]
@@ -70,6 +103,18 @@ mod tests {
         assert!(fails(|x| if x == f64::MAX { x } else { x.sqrt() }));
         assert!(fails(|x| moved(x.sqrt(), 1)));
         assert!(published_fails(|x| moved(x.sqrt(), 1)));
+    }
+
+    #[test]
+    fn each_root_of_document_01_is_compared() {
+        for (x, root) in EDGES {
+            assert!(edges_fail(|y| if x == y {
+                moved(root, 1)
+            } else {
+                y.sqrt()
+            }));
+        }
+        assert_eq!(EDGES[1].1, power_of_two(-537));
     }
 
     #[test]

@@ -12,7 +12,7 @@ pub struct Inputs {
 /// Inputs of every kind.
 pub fn all(plan: &Plan) -> Vec<Inputs> {
     let random = |name| plan.random(name);
-    let times = |quick| plan.times(quick);
+    let times = |quick| plan.values(quick);
     vec![
         Inputs {
             name: "special values",

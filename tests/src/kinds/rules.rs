@@ -46,6 +46,10 @@ fn left_unless(a: f64, b: f64, order: Ordering) -> f64 {
     }
 }
 
+/// What is counted of pairs of zeros.
+pub const UNLIKE_ZEROS: &str = "zeros of unlike sign";
+pub const OTHER_ZERO: &str = "Rust keeps the other zero";
+
 /// Which of two zeros Rust keeps is not set. The engine keeps the left one, and
 /// so does csx with the feature `port`: a listed difference, which is counted.
 fn compare_choice(
@@ -64,7 +68,7 @@ fn compare_choice(
     let mut by_csx = Kind::new(format!("{name}, csx"));
     let mut by_rust = Kind::new(format!("{name}, Rust, but for zeros of unlike sign"));
     let (mut zeros, mut other) = (0u64, 0u64);
-    for (a, b) in pairs(plan, name, plan.times(25_000_000)) {
+    for (a, b) in pairs(plan, name, plan.values(25_000_000)) {
         let got = engine(a, b);
         let unlike = unlike_zeros(a, b);
         by_rule.compare(&[a, b], got, rule(a, b));
@@ -82,8 +86,10 @@ fn compare_choice(
     report.add(by_csx);
     report.add(by_rust);
     report.note(format_args!(
-        "{name} of zeros of unlike sign: {zeros}; Rust keeps the other zero in {other}, a listed difference"
+        "{name} of {UNLIKE_ZEROS}: {zeros}; {OTHER_ZERO} in {other}, a listed difference"
     ));
+    report.count(UNLIKE_ZEROS, zeros);
+    report.count(OTHER_ZERO, other);
 }
 
 fn unlike_zeros(a: f64, b: f64) -> bool {
@@ -108,7 +114,7 @@ pub fn is_finite(report: &mut Report, plan: &Plan, is_finite: impl Fn(f64) -> bo
 
 fn singles(plan: &Plan, kind: &str) -> impl Iterator<Item = f64> {
     let mut random = plan.random(kind);
-    specials().chain((0..plan.times(20_000_000)).map(move |_| random.any()))
+    specials().chain((0..plan.values(20_000_000)).map(move |_| random.any()))
 }
 
 /// Rust asks for bounds that are no NaN, the lower one not above the other.
@@ -125,7 +131,7 @@ pub fn clamp(report: &mut Report, plan: &Plan, clamp: impl Fn(f64, f64, f64) -> 
             specials().for_each(|x| check(x, lo, hi));
         }
     }
-    for _ in 0..plan.times(20_000_000) {
+    for _ in 0..plan.values(20_000_000) {
         let (lo, hi) = bounds(&mut random);
         let x = if random.flip() { lo } else { hi };
         check(random.rival(x), lo, hi);

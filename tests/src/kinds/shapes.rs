@@ -7,6 +7,7 @@ pub(super) mod changes;
 mod curve;
 pub mod edges;
 pub mod expected;
+pub mod hypot;
 mod numbers;
 mod poly;
 pub mod refusals;
@@ -161,6 +162,12 @@ pub(super) const FORMS: [Form; 13] = [
     },
 ];
 
+/// The shape of the table with this name.
+pub(super) fn form(name: &str) -> &'static Form {
+    let form = FORMS.iter().find(|form| form.name == name);
+    form.expect("a shape of the table")
+}
+
 impl Form {
     /// The answers that its cases have to see.
     fn answers(&self) -> &'static [u64] {
@@ -247,14 +254,6 @@ mod tests {
             _ => CoordSystem::Cartesian,
         };
         Csx::new(shape, list, system).inside(point).into()
-    }
-
-    /// The shape of the table with this name.
-    pub fn form(name: &str) -> &'static Form {
-        FORMS
-            .iter()
-            .find(|form| form.name == name)
-            .expect("a shape of the table")
     }
 
     #[test]

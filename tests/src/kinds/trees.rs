@@ -3,6 +3,7 @@
 pub mod building;
 pub mod checking;
 pub(super) mod damage;
+pub mod edges;
 pub(super) mod expected;
 pub mod inputs;
 pub(super) mod others;

@@ -106,7 +106,7 @@ const FEW: usize = 6;
 /// Compares large meshes with few points, and a torus with as many as are accepted.
 pub fn large(report: &mut Report, plan: &Plan, contains: Contains) {
     let mut asker = Asker::new(contains, plan, "large meshes");
-    for _ in 0..plan.times(1) {
+    for _ in 0..plan.rounds(1) {
         for mesh in trees::inputs::large(asker.random()) {
             let subject = Subject::new(&mesh, |own| others::any(own, asker.random()));
             let points = points(&mesh, &subject.rule, FEW, asker.random());

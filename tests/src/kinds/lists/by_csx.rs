@@ -19,11 +19,12 @@ type Entry = (&'static str, bool, bool);
 
 pub const OWN_BOX: &str = "no own box in a leaf";
 pub const EQUAL_VOTES: &str = "equal votes";
+pub const BOTH: &str = "both of these";
 
 const ENTRIES: [Entry; 3] = [
     (OWN_BOX, true, false),
     (EQUAL_VOTES, false, true),
-    ("both of these", true, true),
+    (BOTH, true, true),
 ];
 
 /// A lent tree as csx has it.

@@ -7,13 +7,12 @@ use crate::kinds::meshes::inputs::pick;
 use crate::kinds::meshes::{Line, Outcome};
 use crate::kinds::shapes::changes::{alter, rescale};
 use crate::kinds::shapes::expected::{Csx, ENTRIES, refusal};
-use crate::kinds::shapes::{Case, Engine, FORMS, Form, question};
+use crate::kinds::shapes::{self, Case, Engine, Form, question};
 use crate::random::{NOT_FINITE, Random};
 
 /// Asks about a point of a shape of this form.
 pub fn call(engine: Engine, form: &str, line: &mut Line, random: &mut Random) {
-    let form = FORMS.iter().find(|known| known.name == form);
-    let form = form.expect("a form of the table");
+    let form = shapes::form(form);
     let (Case { shape, list, .. }, point) = case(form, random);
     let want = refusal(&shape, &list, point)
         .unwrap_or_else(|| Csx::new(&shape, &list, form.system).inside(point).into());

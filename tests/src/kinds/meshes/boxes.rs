@@ -118,7 +118,7 @@ pub fn compare(report: &mut Report, plan: &Plan, probe: Probe<f64>) {
 /// Compares large meshes.
 pub fn large(report: &mut Report, plan: &Plan, probe: Probe<f64>) {
     let mut asker = Asker::new(probe, plan, "boxes of large meshes");
-    for _ in 0..plan.times(2) {
+    for _ in 0..plan.rounds(2) {
         for mesh in inputs::large(&mut asker.random) {
             asker.ask(&mesh);
         }

@@ -96,7 +96,7 @@ fn every_mesh(vertices: u32, faces: u32, ask: &mut impl FnMut(&Mesh)) {
 /// order, and many that are equal.
 pub fn large(report: &mut Report, plan: &Plan, probe: Probe<u64>) {
     let mut asker = Asker::new(probe, plan, "edge keys of large meshes", CSX);
-    for _ in 0..plan.times(2) {
+    for _ in 0..plan.rounds(2) {
         for mut mesh in inputs::large(&mut asker.random) {
             ask(&mut asker, &mesh);
             mesh.corners.sort_unstable();

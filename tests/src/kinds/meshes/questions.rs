@@ -12,7 +12,12 @@ use crate::random::{NOT_FINITE, Random};
 use crate::report::Report;
 
 /// What the line of csx has to see.
-const NEEDED_OF_CSX: [&str; 4] = ["accepted", "refusal 3", "refusal 4", "refusal 5"];
+const NEEDED_OF_CSX: [&str; 4] = [
+    "accepted",
+    "refused by csx, 3",
+    "refused by csx, 4",
+    "refused by csx, 5",
+];
 
 /// What csx is asked.
 const CSX: &str = "3 to 5 by csx";
@@ -38,7 +43,7 @@ fn ask(asker: &mut Asker<Probe<u64>>, mesh: &Mesh) {
 }
 
 /// The vertices, faces and triangles.
-fn counts(mesh: &Mesh) -> [u64; 3] {
+pub(super) fn counts(mesh: &Mesh) -> [u64; 3] {
     [mesh.vertex_count(), mesh.ends.len(), mesh.triangle_count()].map(|n| n as u64)
 }
 
@@ -50,7 +55,7 @@ fn ask_csx(asker: &mut Asker<Probe<u64>>, mesh: &Mesh) {
     let want = csx_answer(mesh);
     asker
         .csx
-        .compare(Outcome::answered(got), want, || mesh.text());
+        .compare_csx(Outcome::answered(got), want, || mesh.text());
     if want == 0 {
         asker.csx.see("accepted");
     }

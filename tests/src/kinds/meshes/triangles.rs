@@ -36,7 +36,7 @@ const NEEDED: [&str; 6] = [
 pub fn large(report: &mut Report, plan: &Plan, probe: Probe<u32>) {
     let mut line = Line::new("triangles of large meshes, csx");
     let mut random = plan.random("triangles of large meshes");
-    for _ in 0..plan.times(2) {
+    for _ in 0..plan.rounds(2) {
         for mesh in inputs::large(&mut random) {
             ask(&mut line, probe, &mesh, &mut random);
         }

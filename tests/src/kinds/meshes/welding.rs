@@ -201,7 +201,9 @@ fn compare_csx(asker: &mut Asker<Weld>, triangles: &[f64], room: Room, left: &Le
     if outcome.answer / REFUSAL == 5 {
         outcome.answer = code(5, 0);
     }
-    asker.csx.compare(outcome, want, || text(triangles, room));
+    asker
+        .csx
+        .compare_csx(outcome, want, || text(triangles, room));
     if let Some(mesh) = csx {
         see(&mut asker.csx, triangles, &mesh);
     }
@@ -267,7 +269,8 @@ pub fn compare(report: &mut Report, plan: &Plan, weld: Weld) {
             }
         }
     }
-    asker.add_to(report, &NEEDED, &NEEDED[..5]);
+    let needed_of_csx = [&NEEDED[..4], &["refused by csx, 5"]].concat();
+    asker.add_to(report, &NEEDED, &needed_of_csx);
 }
 
 /// A short list and room for its mesh, without a fault or with any.
@@ -374,7 +377,7 @@ pub fn limits(report: &mut Report, plan: &Plan, weld: Weld) {
     let most = 9 * TRIANGLES;
     let room = Room::needed(most);
     let apart = apart_triangles(&mut asker.random);
-    for _ in 0..plan.times(1) {
+    for _ in 0..plan.rounds(1) {
         ask_long(&mut asker, &apart, room);
         ask_long(&mut asker, &torus_triangles(), room);
         let mut pool: Vec<Point> = Vec::new();

@@ -57,9 +57,9 @@ const EDGES: [Edge; 25] = [
 
 /// Compares the engine with document 01's answers, and csx too.
 pub fn compare(report: &mut Report, engine: Engine) {
-    let mut asker = Asker::new(engine, "document 01's cases, lists unchanged");
-    let mut line = Line::new("document 01's cases");
-    let mut csx = Kind::new("document 01's cases, csx");
+    let mut asker = Asker::new(engine, "document 01's cases, shapes, lists unchanged");
+    let mut line = Line::new("document 01's cases, shapes");
+    let mut csx = Kind::new("document 01's cases, shapes, csx");
     for (shape, list, point, want) in EDGES {
         asker.ask(&mut line, &shape, &mut Lent::new(list), point, want);
         let inside = Csx::new(&shape, list, CoordSystem::Cartesian).inside(point);

@@ -151,8 +151,8 @@ fn spoil(mut numbers: Vec<&mut f64>, random: &mut Random) {
 mod tests {
     use super::*;
     use crate::engine::{self, Point, Shape};
-    use crate::kinds::shapes::OUTSIDE;
-    use crate::kinds::shapes::tests::{form, right};
+    use crate::kinds::shapes::tests::right;
+    use crate::kinds::shapes::{OUTSIDE, form};
     use crate::kinds::tests;
 
     fn fails(engine: Engine) -> bool {

@@ -81,7 +81,7 @@ fn other(random: &mut Random, x: f64, point: Point) -> f64 {
 mod tests {
     use super::*;
     use crate::engine::Shape;
-    use crate::kinds::shapes::tests::form;
+    use crate::kinds::shapes::form;
     use crate::random::moved;
 
     /// A sphere with a point inside and one outside.

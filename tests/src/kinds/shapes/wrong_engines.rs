@@ -6,8 +6,8 @@ use csx::Vec3;
 use csx::primitives::basic::axial;
 use csx::primitives::geom::{angle_ok, dist_point_segment, in_range, tol};
 
-use super::tests::{form, right};
-use super::{Asker, Engine, FORMS, INSIDE, OUTSIDE, cases};
+use super::tests::right;
+use super::{Asker, Engine, FORMS, INSIDE, OUTSIDE, cases, form};
 use crate::engine::{Point, Shape};
 use crate::kinds::tests::fails;
 use crate::plan::{DEFAULT_SEED, Plan};

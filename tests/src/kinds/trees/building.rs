@@ -71,8 +71,57 @@ impl Room {
 struct Builder {
     asker: Asker<Build>,
     csx: Line,
+    listed: Listed,
+}
+
+/// What is counted of trees with equal centres at a median, and of leaves.
+pub const TIED: &str = "trees with equal centres at a median";
+pub const OTHER_HALVES: &str = "csx's leaves have other items there";
+pub const OTHER_ORDER: &str = "trees of which csx has a leaf in another order";
+/// What is counted of zeros.
+pub const FLAT: &str = "trees with a greatest spread of zero alone";
+
+/// In how many trees csx leaves something open, and how often it is another: listed
+/// differences.
+#[derive(Default)]
+struct Listed {
+    tied: u64,
+    other_halves: u64,
+    other_order: u64,
+    flat: u64,
     /// How many zeros csx gives with the other sign.
     zeros: u64,
+}
+
+impl Listed {
+    /// Looks at a tree and at csx's, whose leaves are in order now.
+    fn see(&mut self, built: &Built, csx: &Tree, in_order: bool) {
+        let other = csx.items != built.tree.items;
+        self.tied += u64::from(built.tied);
+        self.flat += u64::from(built.flat && !built.tied);
+        self.other_halves += u64::from(other && built.tied && !built.flat);
+        self.other_order += u64::from(!in_order);
+    }
+
+    /// With the feature `port` csx leaves nothing open.
+    fn add_to(&self, report: &mut Report) {
+        let open = [
+            (TIED, self.tied),
+            (OTHER_HALVES, self.other_halves),
+            (OTHER_ORDER, self.other_order),
+            (FLAT, self.flat),
+        ];
+        let open = if cfg!(feature = "port") {
+            &open[..1]
+        } else {
+            &open
+        };
+        for (name, times) in open {
+            report.note(format_args!("{name}: {times}"));
+            report.count(*name, *times);
+        }
+        note_zeros(report, self.zeros);
+    }
 }
 
 impl Builder {
@@ -80,7 +129,7 @@ impl Builder {
         Self {
             asker: Asker::new(build, plan, name, "starts and counts by csx"),
             csx: Line::new(format!("{name}, items and boxes by csx")),
-            zeros: 0,
+            listed: Listed::default(),
         }
     }
 
@@ -130,13 +179,12 @@ impl Builder {
         let line = &mut self.asker.csx;
         line.compare(Outcome { answer, wrong }, want, || mesh.text());
         line.see(sort(built));
-        if !cfg!(feature = "port") {
-            if built.tied || built.flat {
-                return self.csx.see(format!("left out for {}", sort(built)));
-            }
-            csx.sort_leaves();
+        let in_order = cfg!(feature = "port") || csx.sort_leaves();
+        self.listed.see(built, &csx, in_order);
+        if !cfg!(feature = "port") && (built.tied || built.flat) {
+            return self.csx.see(format!("left out for {}", sort(built)));
         }
-        self.zeros += take_zeros(&mut csx.boxes, tree.boxes.list());
+        self.listed.zeros += take_zeros(&mut csx.boxes, tree.boxes.list());
         let wrong = tree.wrong(&csx);
         self.csx
             .compare(Outcome { answer, wrong }, want, || mesh.text());
@@ -146,7 +194,7 @@ impl Builder {
     fn add_to(self, report: &mut Report, needed: &[&str]) {
         self.asker.add_to(report, needed, &[] as &[&str]);
         self.csx.add_to(report, &["centres apart at each median"]);
-        note_zeros(report, self.zeros);
+        self.listed.add_to(report);
     }
 }
 
@@ -185,14 +233,16 @@ pub(in crate::kinds) fn csx_tree(mesh: &Mesh) -> Tree {
 }
 
 impl Tree {
-    /// Puts the items of each leaf in ascending order.
-    fn sort_leaves(&mut self) {
+    /// Puts the items of each leaf in ascending order, and says whether they were.
+    fn sort_leaves(&mut self) -> bool {
+        let before = self.items.clone();
         for [start, count] in self.nodes.as_chunks().0 {
             let (start, count) = (*start as usize, *count as usize);
             if count > 0 {
                 self.items[start..start + count].sort_unstable();
             }
         }
+        self.items == before
     }
 }
 
@@ -238,7 +288,7 @@ pub(in crate::kinds) fn faulty(random: &mut Random) -> (Mesh, Room) {
 /// make a selection slow.
 pub fn large(report: &mut Report, plan: &Plan, build: Build) {
     let mut builder = Builder::new(build, plan, "trees built of large meshes");
-    for _ in 0..plan.times(1) {
+    for _ in 0..plan.rounds(1) {
         for mesh in inputs::large(&mut builder.asker.random) {
             let mut room = Room::needed(mesh.triangle_count());
             builder.ask(&mesh, room);
@@ -252,4 +302,53 @@ pub fn large(report: &mut Report, plan: &Plan, build: Build) {
         }
     }
     builder.add_to(report, &["refusal 6"]);
+}
+
+#[cfg(test)]
+mod tests {
+    use super::*;
+
+    fn tree(nodes: &[u32], items: &[u32]) -> Tree {
+        Tree {
+            nodes: nodes.to_vec(),
+            items: items.to_vec(),
+            ..Tree::default()
+        }
+    }
+
+    #[test]
+    fn what_csx_leaves_open_is_counted() {
+        let seen = |tied, flat, items: [u32; 2], in_order| {
+            let tree = |items| tree(&[], items);
+            let built = Built {
+                tree: tree(&[0, 1]),
+                tied,
+                flat,
+            };
+            let mut listed = Listed::default();
+            listed.see(&built, &tree(&items), in_order);
+            let Listed {
+                tied,
+                other_halves,
+                other_order,
+                flat,
+                ..
+            } = listed;
+            [tied, other_halves, other_order, flat]
+        };
+        assert_eq!(seen(false, false, [0, 1], true), [0, 0, 0, 0]);
+        assert_eq!(seen(true, false, [0, 1], true), [1, 0, 0, 0]);
+        assert_eq!(seen(true, false, [1, 0], true), [1, 1, 0, 0]);
+        assert_eq!(seen(true, true, [1, 0], true), [1, 0, 0, 0]);
+        assert_eq!(seen(false, true, [1, 0], false), [0, 0, 1, 1]);
+    }
+
+    #[test]
+    fn leaves_are_put_in_order() {
+        let nodes = [2, 0, 0, 2, 2, 2];
+        let mut csx = tree(&nodes, &[3, 1, 0, 2]);
+        assert!(!csx.sort_leaves());
+        assert_eq!(csx, tree(&nodes, &[1, 3, 0, 2]));
+        assert!(csx.sort_leaves());
+    }
 }

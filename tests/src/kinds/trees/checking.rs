@@ -280,7 +280,7 @@ pub(in crate::kinds) fn faulty(random: &mut Random) -> (Mesh, Tree, usize) {
 /// Compares large meshes, with their own trees and with damaged ones.
 pub fn large(report: &mut Report, plan: &Plan, check: Check) {
     let mut asker = Asker::new(check, plan, "of large meshes");
-    for _ in 0..plan.times(1) {
+    for _ in 0..plan.rounds(1) {
         for mesh in inputs::large(&mut asker.random) {
             let own = own_boxes(&mesh);
             let built = build(&RULE, &own).tree;
