@@ -1,6 +1,7 @@
 # run: the main job. test: the gate. picture: a section through a part. compare: the large comparison.
-# load: a million calls with random bytes. bench: ratios of speed. install: the program point-list.
-.PHONY: run test picture compare compare-published compare-port load bench install archives
+# replay: csx's answers without Rust. load: a million calls with random bytes. bench: ratios of speed.
+# install: the program point-list.
+.PHONY: run test picture compare compare-published compare-port replay load bench install archives
 
 PREFIX ?= /usr/local
 VIEWER_FLAGS = -std=c++17 -O2 -Wall -Wextra -Wpedantic -Wconversion -Wshadow -Werror
@@ -34,6 +35,12 @@ compare-published:
 
 compare-port:
 	tests/target/port/release/compare large --counts tests/target/port.counts
+
+target/replay: archives
+	cc -std=c99 -Wall -Wextra -Werror examples/replay.c -Ltarget/staticlib -lprobes -lm -o $@
+
+replay: target/replay
+	target/replay < examples/replay.stdin
 
 load: archives
 	cd tests && cargo build --offline --locked --release --features port --bin load

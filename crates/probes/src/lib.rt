@@ -85,3 +85,9 @@ pub extern "C" fn probe_by_digits(w: u64) -> u64
 {
     float::significand::by_digits(w)
 }
+
+// Replays the sample of csx's answers on standard input: 0 if all records are equal, else 1.
+#[no_mangle]
+pub extern "C" fn probe_replay() -> u64 {
+    replay::replay_sample()
+}

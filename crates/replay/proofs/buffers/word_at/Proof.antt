@@ -1,0 +1,21 @@
+-- `buffers::word_at` meets its contract: a place past the words has none.
+use native.Mathlib.Omega.{arith}
+use borrow.Author.Needs.{needs}
+use Rattle.replay.proofs.WrittenLaws.{within, past}
+use Rattle.replay.proofs.buffers.word_at.Statement.{statement}
+use Rattle.replay.proofs.buffers.word_at.Tie as tie
+
+mul-result : tie.Need-mul-result
+mul-result c = search needs
+
+shared-slice-read-result : tie.Need-shared-slice-read-result
+shared-slice-read-result c = search needs
+
+returns : tie.Need-returns
+returns c = within (c .before .before .args .words .now) _ _ _ (omega arith)
+
+returns-2 : tie.Need-returns-2
+returns-2 c = past (c .before .args .words .now) _ _ (omega arith)
+
+pub word-at-spec : {M : Type 1} → statement M
+word-at-spec = tie.close (tie.spec mul-result shared-slice-read-result returns returns-2)

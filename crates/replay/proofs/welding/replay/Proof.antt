@@ -1,0 +1,140 @@
+-- `welding::replay` is safe and ends: the triangles are a front of their buffer.
+use mathlib.Core.Path.{sym}
+use native.Mathlib.Omega.{arith}
+use lib.Seq.{length-take-le}
+use borrow.Author.Needs.{needs}
+use Rattle.replay.proofs.welding.replay.Statement.{statement}
+use Rattle.replay.proofs.welding.replay.Tie as tie
+
+after-requires : tie.Need-after-requires
+after-requires c κs = search needs
+
+add-if1 : tie.Need-add-if1
+add-if1 c = search needs
+
+returns : tie.Need-returns
+returns c = search needs
+
+float-places-requires : tie.Need-float-places-requires
+float-places-requires c κs = search needs
+
+float-places-requires-2 : tie.Need-float-places-requires-2
+float-places-requires-2 c κs = search needs
+
+number-places-requires : tie.Need-number-places-requires
+number-places-requires c κs = search needs
+
+number-places-requires-2 : tie.Need-number-places-requires-2
+number-places-requires-2 c κs = search needs
+
+word-places-requires : tie.Need-word-places-requires
+word-places-requires c κs = search needs
+
+sub-put-floats : tie.Need-sub-put-floats
+sub-put-floats c = search needs
+
+part-put-floats-start : tie.Need-part-put-floats-start
+part-put-floats-start c = search needs
+
+part-put-floats-end : tie.Need-part-put-floats-end
+part-put-floats-end c = search needs
+
+slice-aggregate-put-floats : tie.Need-slice-aggregate-put-floats
+slice-aggregate-put-floats c = search needs
+
+put-floats-requires : tie.Need-put-floats-requires
+put-floats-requires c κs = search needs
+
+add-if2 : tie.Need-add-if2
+add-if2 c = search needs
+
+returns-2 : tie.Need-returns-2
+returns-2 c = search needs
+
+mul-rest : tie.Need-mul-rest
+mul-rest c = search needs
+
+sub-rest : tie.Need-sub-rest
+sub-rest c = search needs
+
+part-rest-start : tie.Need-part-rest-start
+part-rest-start c = search needs
+
+part-rest-end : tie.Need-part-rest-end
+part-rest-end c = search needs
+
+array-share-prefix-triangles : tie.Need-array-share-prefix-triangles
+array-share-prefix-triangles c = search needs
+
+slice-aggregate-weld : tie.Need-slice-aggregate-weld
+slice-aggregate-weld c = sym (length-take-le (c .before .before .before .before .put-floats .result) (c .before .before .before .before .put-floats .last .1 .0) (omega arith))
+
+slice-aggregate-weld-2 : tie.Need-slice-aggregate-weld-2
+slice-aggregate-weld-2 c = search needs
+
+slice-aggregate-weld-3 : tie.Need-slice-aggregate-weld-3
+slice-aggregate-weld-3 c = search needs
+
+slice-aggregate-weld-4 : tie.Need-slice-aggregate-weld-4
+slice-aggregate-weld-4 c = search needs
+
+slice-aggregate-weld-5 : tie.Need-slice-aggregate-weld-5
+slice-aggregate-weld-5 c = search needs
+
+weld-requires : tie.Need-weld-requires
+weld-requires c κs = search needs
+
+slice-aggregate-compared : tie.Need-slice-aggregate-compared
+slice-aggregate-compared c = search needs
+
+slice-aggregate-compared-2 : tie.Need-slice-aggregate-compared-2
+slice-aggregate-compared-2 c = search needs
+
+slice-aggregate-compared-3 : tie.Need-slice-aggregate-compared-3
+slice-aggregate-compared-3 c = search needs
+
+slice-aggregate-compared-4 : tie.Need-slice-aggregate-compared-4
+slice-aggregate-compared-4 c = search needs
+
+compared-requires : tie.Need-compared-requires
+compared-requires c κs = search needs
+
+returns-3 : tie.Need-returns-3
+returns-3 c = search needs
+
+pub replay-spec : {M : Type 1} → statement M
+replay-spec =
+    tie.close
+    (tie.spec
+    after-requires
+    add-if1
+    returns
+    float-places-requires
+    float-places-requires-2
+    number-places-requires
+    number-places-requires-2
+    word-places-requires
+    sub-put-floats
+    part-put-floats-start
+    part-put-floats-end
+    slice-aggregate-put-floats
+    put-floats-requires
+    add-if2
+    returns-2
+    mul-rest
+    sub-rest
+    part-rest-start
+    part-rest-end
+    array-share-prefix-triangles
+    slice-aggregate-weld
+    slice-aggregate-weld-2
+    slice-aggregate-weld-3
+    slice-aggregate-weld-4
+    slice-aggregate-weld-5
+    weld-requires
+    slice-aggregate-compared
+    slice-aggregate-compared-2
+    slice-aggregate-compared-3
+    slice-aggregate-compared-4
+    compared-requires
+    returns-3)

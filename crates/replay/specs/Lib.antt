@@ -1,0 +1,3 @@
+-- The definitions of the program `replay`.
+pub mod Records
+pub mod Written

@@ -1,0 +1,92 @@
+// Welding. A record: the triangles, the lengths of the four buffers, the number returned, and what stands at the front
+// of each buffer.
+ghost use Prim.Native.Nat.{_≤_};
+ghost use lib.ListN.{length};
+use crate::buffers::float_places;
+use crate::buffers::floats_are;
+use crate::buffers::number_places;
+use crate::buffers::numbers_are;
+use crate::buffers::put_floats;
+use crate::buffers::smaller;
+use crate::buffers::word_places;
+use crate::buffers::words_are;
+use crate::outcome::Outcome;
+use crate::outcome::judged;
+use crate::record::after;
+use viewer::meshes::csx_from_triangles;
+
+// Lends as much of each buffer as the first four words say.
+fn weld(
+    words: &[u64],
+    triangles: &[f64],
+    coords: &mut [f64],
+    corners: &mut [u32],
+    ends: &mut [u32],
+    sizes: &mut [u64],
+) -> u64
+    requires { ⌜ 5 ≤ length (now words) ⌝ }
+{
+    let a = smaller(words[0] as usize, coords.len());
+    let b = smaller(words[1] as usize, corners.len());
+    let c = smaller(words[2] as usize, ends.len());
+    let d = smaller(words[3] as usize, sizes.len());
+    csx_from_triangles(
+        triangles,
+        &mut coords[..a],
+        &mut corners[..b],
+        &mut ends[..c],
+        &mut sizes[..d],
+    )
+}
+
+// Compares the number returned with the fifth word, and each buffer with the lists behind it.
+fn compared(
+    words: &[u64],
+    returned: u64,
+    coords: &[f64],
+    corners: &[u32],
+    ends: &[u32],
+    sizes: &[u64],
+) -> Outcome {
+    let corners_at = after(words, 5);
+    let ends_at = after(words, corners_at);
+    let sizes_at = after(words, ends_at);
+    let end = after(words, sizes_at);
+    if end != words.len() {
+        return Outcome::Unreadable;
+    }
+    judged(
+        (returned == words[4])
+            & floats_are(coords, &words[6..corners_at])
+            & numbers_are(corners, &words[corners_at + 1..ends_at])
+            & numbers_are(ends, &words[ends_at + 1..sizes_at])
+            & words_are(sizes, &words[sizes_at + 1..end]),
+    )
+}
+
+// Reads the triangles, and welds them in buffers whose places hold 7.
+pub fn replay(words: &[u64]) -> Outcome {
+    let rooms = after(words, 0);
+    if words.len() < rooms + 5 {
+        return Outcome::Unreadable;
+    }
+    let mut triangles = float_places(0.0);
+    let mut coords = float_places(7.0);
+    let mut corners = number_places(7);
+    let mut ends = number_places(7);
+    let mut sizes = word_places();
+    let given = put_floats(&words[1..rooms], &mut triangles);
+    if given + 1 != rooms {
+        return Outcome::Unreadable;
+    }
+    let rest = &words[rooms..];
+    let returned = weld(
+        rest,
+        &triangles[..given],
+        &mut coords,
+        &mut corners,
+        &mut ends,
+        &mut sizes,
+    );
+    compared(rest, returned, &coords, &corners, &ends, &sizes)
+}
