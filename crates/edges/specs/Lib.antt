@@ -5,4 +5,3 @@ pub mod Pairs
 pub mod EdgeLaws
 pub mod PairLaws
 pub mod ClosedLaws
-pub mod Cases

@@ -9,8 +9,8 @@ use mathlib.Core.Path.{_≡_, refl, sym, ap, subst}
 use mathlib.Core.Logic.{inl, inr}
 use mathlib.Core.Bool.{Bool, false}
 use lib.Dec.{T, not-T}
-use lib.IntN.{pos, negsuc}
-use lib.Ieee.{Float, nan, inf, fin, binary64, toBits, fits, lt, le, eq}
+use lib.IntN.{pos}
+use lib.Ieee.{Float, nan, inf, fin, binary64, fits, lt, le, eq}
 use lib.Ieee.Bits.{is-true, is-false}
 use lib.Ieee.Scale.{finite}
 use Rattle.float.specs.Rules.{zero64}
@@ -59,16 +59,3 @@ root-alike {x} {y} (inr z) = inr (still x (z .0), still y (z .1))
 
     still : (x : Float) → T (isZero x) → T (isZero (root x))
     still x z = subst (λ (t : Float). T (isZero t)) (sym (root-at-zero x (is-true (eq x zero64) (alike-eq (zero-number x z) (inr (z, tt)))))) z
-
--- ---- document 01's cases: of 4, of 2^-1074, and the bits of that of 2
-pub root-four : root (fin false 1 (pos 2)) ≡ fin false 1 (pos 1)
-unfolding root
-root-four = refl
-
-pub root-smallest : root (fin false 1 (negsuc 1073)) ≡ fin false 1 (negsuc 536)
-unfolding root
-root-smallest = refl
-
-pub root-two : toBits binary64 (root (fin false 1 (pos 1))) ≡ 0x3FF6_A09E_667F_3BCD
-unfolding root toBits
-root-two = refl

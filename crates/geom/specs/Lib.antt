@@ -2,4 +2,3 @@
 pub mod Tolerance
 pub mod Segments
 pub mod Polygons
-pub mod Cases

@@ -1,3 +1,2 @@
 -- The definitions of crate `poly`.
 pub mod Planes
-pub mod Cases
