@@ -1,75 +1,109 @@
--- A walk's stack of nodes that are still to be visited: the entry at place k is the root of a subtree with at most 32 − k nodes on a path,
--- and where it ends the next lower entry's subtree begins. The laws of one step of a walk.
+-- Where a walk is, and what it still comes to: the subtree of the node that it is at, and those of the nodes on its stack. The boxes of all these nodes passed.
+-- The laws of one step of a walk.
 use Prim.Native.Nat.{ℕ, zero, suc, _+_, _-_, _/_, _≤_, _<_}
 use native.Mathlib.Nat.{le-refl}
+use native.Mathlib.Numerals.{add-one}
 use native.Mathlib.Omega.{arith}
 use mathlib.Core.Path.{_≡_, refl, sym, ap, subst, _∙_}
 use mathlib.Core.Logic.{⊎-elim}
 use mathlib.Core.Bool.{Bool, true, false, cond}
 use mathlib.Core.List.{List, [], _∷_, _++_, map, append-nil, append-assoc}
-use lib.Dec.{ltb}
+use lib.Dec.{eqb}
 use lib.ListN.{length, getD, set, replicate, length-set, length-replicate, getD-replicate}
 use lib.Seq.{getD-set-same, getD-set-other}
-use borrow.Author.Tests.{eq-eqb, ne-eqb, ltb-true, ltb-false}
+use borrow.Author.Tests.{eq-eqb, ne-eqb}
 use Rattle.keys.specs.SortingTheorems.{by-test}
 use Rattle.math.specs.declared.BoundingBox.{BoundingBox}
 use Rattle.math.specs.Boxes.{isEmpty}
 use Rattle.mesh.specs.Mesh.{Mesh, triangleCount}
 use Rattle.tree.specs.Tree.{Tree, nodeCount, boxOf, startOf, countOf}
 use Rattle.tree.specs.TreeRules.{Subtree, leaf, inner, TreeRules}
+use Rattle.walks.specs.declared.nodes.Place.{Place}
 use Rattle.walks.specs.Walks.{node, item, itemsFrom, visits, allVisits, reached, Ready}
 use Rattle.walks.specs.WalkLaws.{below, below-out, below-leaf, below-inner}
 use Rattle.walks.specs.WalkTheorem.{subtree-grows}
 use Rattle.walks.specs.ReadyLaws.{node-some}
 
--- the lowest k entries of the stack are the roots of subtrees, one behind the other from node n and item place i to the last
-pub data Chain (m : Mesh) (t : Tree) (s : List ℕ) : (k n i : ℕ) → Type 0 where
-  none : {n i : ℕ} → n ≡ nodeCount t → i ≡ triangleCount m → Chain m t s 0 n i
-  more : {k n i n' i' : ℕ} → getD s k 0 ≡ n → Subtree m t (32 - k) n i n' i' → Chain m t s k n' i' → Chain m t s (suc k) n i
+-- ---- where a walk is
 
--- the lowest k entries are such
-pub record Pending (m : Mesh) (t : Tree) (s : List ℕ) (k : ℕ) : Type 0 where
-  pub node : ℕ
-  pub place : ℕ
-  pub chain : Chain m t s k node place
+-- so many subtrees are still to be visited: that of node n, whose items begin at place i, and those whose roots the stack has below it. They lie one behind the other,
+-- and the one with k others behind it has at most 32 − k nodes on a path.
+pub data Chain (m : Mesh) (t : Tree) (passes : BoundingBox → Bool) (s : List ℕ) : (height n i : ℕ) → Type 0 where
+  none : {n i : ℕ} → n ≤ nodeCount t → i ≤ triangleCount m → Chain m t passes s 0 n i
+  more : {k n i n' i' next : ℕ} → passes (boxOf t n) ≡ true → Subtree m t (32 - k) n i n' i' → n' ≤ getD s k 0 → i' ≤ next → Chain m t passes s k (getD s k 0) next → Chain m t passes s (suc k) n i
 
--- the triangles that a walk comes to from the lowest k entries down, the highest first
-unfoldable pub pending : Tree → (BoundingBox → Bool) → List ℕ → ℕ → List ℕ
-pending t passes s zero = []
-pending t passes s (suc k) = below t passes (32 - k) (getD s k 0) ++ pending t passes s k
+-- a walk is at a place, with a stack of 32 places
+pub record Walking (m : Mesh) (t : Tree) (passes : BoundingBox → Bool) (s : List ℕ) (at : Place) : Type 0 where
+  pub long : length s ≡ 32
+  pub first : ℕ
+  pub chain : Chain m t passes s (at .height) (at .node) first
 
--- how many nodes there are from the highest entry on
-unfoldable pub ahead : Tree → List ℕ → ℕ → ℕ
-ahead t s zero = 0
-ahead t s (suc k) = nodeCount t - getD s k 0
+-- the triangles that it still comes to
+unfoldable pub pendingFrom : Tree → (BoundingBox → Bool) → List ℕ → ℕ → ℕ → List ℕ
+pendingFrom t passes s zero n = []
+pendingFrom t passes s (suc k) n = below t passes (32 - k) n ++ pendingFrom t passes s k (getD s k 0)
 
--- the stack with the right child in the place of its parent, and the left child on top
-abbrev pub children : List ℕ → ℕ → ℕ → ℕ → List ℕ
-children s k left right = set (set s k right) (k + 1) left
+abbrev pub pending : Tree → (BoundingBox → Bool) → List ℕ → Place → List ℕ
+pending t passes s at = pendingFrom t passes s (at .height) (at .node)
 
-module _ (m : Mesh) (t : Tree) where
+-- a walk has gone on from one place to another, and still comes to the same
+pub record Onward (m : Mesh) (t : Tree) (passes : BoundingBox → Bool) (s : List ℕ) (at : Place) (s' : List ℕ) (at' : Place) : Type 0 where
+  pub walking : Walking m t passes s' at'
+  pub same : pending t passes s' at' ≡ pending t passes s at
+  pub further : at .node ≤ at' .node
+
+-- and has come to a leaf, if not to its end
+pub record NextLeaf (m : Mesh) (t : Tree) (passes : BoundingBox → Bool) (s : List ℕ) (at : Place) (s' : List ℕ) (at' : Place) : Type 0 where
+  pub onward : Onward m t passes s at s' at'
+  pub leaf : 0 < at' .height → 0 < countOf t (at' .node)
+
+-- ---- the steps of a walk
+
+abbrev pub place : ℕ → ℕ → Place
+place n height = record { node = n; height = height }
+
+abbrev pub raised : ℕ → Bool → ℕ
+raised height one = cond one (height + 1) height
+
+-- past all that is below a place
+abbrev pub popped : List ℕ → Place → Place
+popped s at = place (getD s (at .height - 1) 0) (at .height - 1)
+
+popped-last : (s : List ℕ) (n k : ℕ) → popped s (place n (suc k)) ≡ place (getD s k 0) k
+popped-last s n k =
+    let last : suc k - 1 ≡ k = omega arith in
+    ap (λ j. place (getD s j 0) j) last
+
+-- past an inner node, whose children's boxes passed or not
+abbrev pub advanced : List ℕ → Place → ℕ → ℕ → Bool → Bool → Place
+advanced s at left right enters follows = cond enters (place left (raised (at .height) follows)) (cond follows (place right (at .height)) (popped s at))
+
+abbrev pub pushed : List ℕ → Place → ℕ → Bool → List ℕ
+pushed s at right enters = cond enters (set s (at .height) right) s
+
+module _ (m : Mesh) (t : Tree) (passes : BoundingBox → Bool) where
   -- a subtree may be taken for a deeper one
   deeper : (depth n i n' i' : ℕ) → Subtree m t depth n i n' i' → Subtree m t (suc depth) n i n' i'
   deeper _ n i n' i' (leaf some few start nodes places around) = leaf some few start nodes places around
   deeper _ n i n' i' (inner {depth} {middle = middle} count left right around) =
       inner count (deeper depth (n + 1) i (startOf t n) middle left) (deeper depth (startOf t n) middle n' i' right) around
 
-  visits-leaf : (passes : BoundingBox → Bool) (depth n : ℕ) → 0 < countOf t n → visits t passes (suc depth) n ≡ node n ∷ cond (passes (boxOf t n)) (map item (itemsFrom (t .items) (startOf t n) (countOf t n))) []
+  visits-leaf : (depth n : ℕ) → 0 < countOf t n → visits t passes (suc depth) n ≡ node n ∷ cond (passes (boxOf t n)) (map item (itemsFrom (t .items) (startOf t n) (countOf t n))) []
   unfolding visits
-  visits-leaf passes depth n some = rw (ne-eqb (countOf t n) 0 (λ z. omega arith))
+  visits-leaf depth n some = rw (ne-eqb (countOf t n) 0 (λ z. omega arith))
 
-  visits-inner : (passes : BoundingBox → Bool) (depth n : ℕ) → countOf t n ≡ 0 → visits t passes (suc depth) n ≡ node n ∷ cond (passes (boxOf t n)) (visits t passes depth (n + 1) ++ visits t passes depth (startOf t n)) []
+  visits-inner : (depth n : ℕ) → countOf t n ≡ 0 → visits t passes (suc depth) n ≡ node n ∷ cond (passes (boxOf t n)) (visits t passes depth (n + 1) ++ visits t passes depth (startOf t n)) []
   unfolding visits
-  visits-inner passes depth n count = rw (eq-eqb (countOf t n) 0 count)
+  visits-inner depth n count = rw (eq-eqb (countOf t n) 0 count)
 
   -- a walk comes to the same in it
-  visits-deeper : (passes : BoundingBox → Bool) (depth n i n' i' : ℕ) → Subtree m t depth n i n' i' → visits t passes (suc depth) n ≡ visits t passes depth n
-  visits-deeper passes _ n i n' i' (leaf {depth} some few start nodes places around) = visits-leaf passes (suc depth) n some ∙ sym (visits-leaf passes depth n some)
-  visits-deeper passes _ n i n' i' (inner {depth} {middle = middle} count left right around) =
-      rw (visits-inner passes (suc depth) n count, visits-inner passes depth n count, visits-deeper passes depth (n + 1) i (startOf t n) middle left, visits-deeper passes depth (startOf t n) middle n' i' right)
+  visits-deeper : (depth n i n' i' : ℕ) → Subtree m t depth n i n' i' → visits t passes (suc depth) n ≡ visits t passes depth n
+  visits-deeper _ n i n' i' (leaf {depth} some few start nodes places around) = visits-leaf (suc depth) n some ∙ sym (visits-leaf depth n some)
+  visits-deeper _ n i n' i' (inner {depth} {middle = middle} count left right around) =
+      rw (visits-inner (suc depth) n count, visits-inner depth n count, visits-deeper depth (n + 1) i (startOf t n) middle left, visits-deeper depth (startOf t n) middle n' i' right)
 
   -- the two subtrees of an inner node
-  pub record Halves (depth n i n' i' : ℕ) : Type 0 where
+  record Halves (depth n i n' i' : ℕ) : Type 0 where
     pub less : ℕ
     pub middle : ℕ
     pub deep : depth ≡ suc less
@@ -81,97 +115,84 @@ module _ (m : Mesh) (t : Tree) where
   halves _ n i n' i' (inner {depth} {middle = middle} count left right around) e = record { less = depth; middle = middle; deep = refl; left = left; right = right }
 
   -- the item places of a leaf
-  leaf-places : (depth n i n' i' : ℕ) → Subtree m t depth n i n' i' → 0 < countOf t n → (startOf t n ≡ i) × (countOf t n ≤ 4) × (i' ≡ i + countOf t n)
-  leaf-places _ n i n' i' (leaf some few start nodes places around) h = (start, few, places)
+  leaf-places : (depth n i n' i' : ℕ) → Subtree m t depth n i n' i' → 0 < countOf t n → (startOf t n ≡ i) × (i' ≡ i + countOf t n)
+  leaf-places _ n i n' i' (leaf some few start nodes places around) h = (start, places)
   leaf-places _ n i n' i' (inner count left right around) h = absurd (omega arith)
 
-  -- the entries lie within the tree
-  chain-within : (s : List ℕ) (k n i : ℕ) → Chain m t s k n i → (n ≤ nodeCount t) × (i ≤ triangleCount m)
-  chain-within s _ n i (none nodes items) = (omega arith, omega arith)
-  chain-within s _ n i (more {k} {n' = n'} {i' = i'} here subtree rest) =
+  -- the subtrees lie within the tree
+  chain-within : (s : List ℕ) (k n i : ℕ) → Chain m t passes s k n i → (n ≤ nodeCount t) × (i ≤ triangleCount m)
+  chain-within s _ n i (none nodes items) = (nodes, items)
+  chain-within s _ n i (more {k} {n' = n'} {i' = i'} {next = next} passed subtree nodes items rest) =
       let grows = subtree-grows m t (32 - k) n i n' i' subtree in
-      let within = chain-within s k n' i' rest in
+      let within = chain-within s k (getD s k 0) next rest in
       (omega (arith, grows .1, within .0), omega (arith, grows .2, within .1))
 
-  -- the highest one is the first node that is not passed by yet
-  chain-ahead : (s : List ℕ) (k n i : ℕ) → Chain m t s k n i → ahead t s k ≤ nodeCount t - n
-  unfolding ahead
-  chain-ahead s _ n i (none nodes items) = omega arith
-  chain-ahead s _ n i (more here subtree rest) = rw here (le-refl (nodeCount t - n))
-
   -- a store above them changes none of them
-  chain-set : (s : List ℕ) (j x k n i : ℕ) → k ≤ j → Chain m t s k n i → Chain m t (set s j x) k n i
+  chain-set : (s : List ℕ) (j x k n i : ℕ) → k ≤ j → Chain m t passes s k n i → Chain m t passes (set s j x) k n i
   chain-set s j x _ n i above (none nodes items) = none nodes items
-  chain-set s j x _ n i above (more {k} {n' = n'} {i' = i'} here subtree rest) =
-      more (getD-set-other s j k x 0 (λ e. omega arith) ∙ here) subtree (chain-set s j x k n' i' (omega arith) rest)
+  chain-set s j x _ n i above (more {k} {next = next} passed subtree nodes items rest) =
+      let stays : getD (set s j x) k 0 ≡ getD s k 0 = getD-set-other s j k x 0 (λ e. omega arith) in
+      more passed subtree (omega (arith, stays)) items (rw stays (chain-set s j x k (getD s k 0) next (omega arith) rest))
 
-  pending-set : (passes : BoundingBox → Bool) (s : List ℕ) (j x k : ℕ) → k ≤ j → pending t passes (set s j x) k ≡ pending t passes s k
-  unfolding pending
-  pending-set passes s j x zero above = refl
-  pending-set passes s j x (suc k) above = rw (getD-set-other s j k x 0 (λ e. omega arith), pending-set passes s j x k (omega arith))
+  pending-set : (s : List ℕ) (j x k n : ℕ) → k ≤ j → pendingFrom t passes (set s j x) k n ≡ pendingFrom t passes s k n
+  unfolding pendingFrom
+  pending-set s j x zero n above = refl
+  pending-set s j x (suc k) n above = rw (getD-set-other s j k x 0 (λ e. omega arith), pending-set s j x k (getD s k 0) (omega arith))
 
-  -- what is known of the highest entry
-  pub record Top (s : List ℕ) (k : ℕ) : Type 0 where
-    pub place : ℕ
+  -- the first of the subtrees
+  record Top (s : List ℕ) (k n i : ℕ) : Type 0 where
     pub node' : ℕ
-    pub place' : ℕ
+    pub item' : ℕ
+    pub next : ℕ
     pub low : k < 32
-    pub subtree : Subtree m t (32 - k) (getD s k 0) place node' place'
-    pub rest : Chain m t s k node' place'
+    pub passed : passes (boxOf t n) ≡ true
+    pub subtree : Subtree m t (32 - k) n i node' item'
+    pub nodes : node' ≤ getD s k 0
+    pub items : item' ≤ next
+    pub rest : Chain m t passes s k (getD s k 0) next
+    pub grows : (n < node') × (i < item')
+    pub within : (getD s k 0 ≤ nodeCount t) × (next ≤ triangleCount m)
 
-  pub top : (s : List ℕ) (k : ℕ) → Pending m t s (suc k) → Top s k
-  top s k p = go (p .node) (p .place) (p .chain)
-    where
-      go : (n i : ℕ) → Chain m t s (suc k) n i → Top s k
-      go n i (more {n' = n'} {i' = i'} here subtree rest) =
-          let there = rw (sym here) at subtree in
-          record { place = i; node' = n'; place' = i'; low = omega (arith, subtree-grows m t (32 - k) n i n' i' subtree .0); subtree = there; rest = rest }
+  top : (s : List ℕ) (k n i : ℕ) → Chain m t passes s (suc k) n i → Top s k n i
+  top s k n i (more {n' = n'} {i' = i'} {next = next} passed subtree nodes items rest) =
+      let grows = subtree-grows m t (32 - k) n i n' i' subtree in
+      record {
+        node' = n';
+        item' = i';
+        next = next;
+        low = omega (arith, grows .0);
+        passed = passed;
+        subtree = subtree;
+        nodes = nodes;
+        items = items;
+        rest = rest;
+        grows = (grows .1, grows .2);
+        within = chain-within s k (getD s k 0) next rest;
+      }
 
-  -- ---- one step of a walk, which takes the highest entry, node n at place k, off the stack
+  -- ---- one step, from node n with k subtrees behind its own
 
-  module _ (s : List ℕ) (k : ℕ) (p : Pending m t s (suc k)) where
-    abbrev n : ℕ
-    n = getD s k 0
+  module _ (s : List ℕ) (k n i : ℕ) (c : Chain m t passes s (suc k) n i) where
+    abbrev h : Top s k n i
+    h = top s k n i c
 
-    -- the node is one of the tree's
-    pub step-node : (k < 32) × (n < nodeCount t)
-    step-node =
-        let h = top s k p in
-        (h .low, omega (arith, subtree-grows m t (32 - k) n (h .place) (h .node') (h .place') (h .subtree) .1, chain-within s k (h .node') (h .place') (h .rest) .0))
-
-    -- the entries below it stay
-    pub step-rest : Pending m t s k
-    step-rest = let h = top s k p in record { node = h .node'; place = h .place'; chain = h .rest }
-
-    -- and they are further on
-    pub step-rest-less : ahead t s k < nodeCount t - n
-    step-rest-less =
-        let h = top s k p in
-        omega (arith, subtree-grows m t (32 - k) n (h .place) (h .node') (h .place') (h .subtree) .1, chain-within s k (h .node') (h .place') (h .rest) .0, chain-ahead s k (h .node') (h .place') (h .rest))
-
-    -- nothing below a node whose box does not pass
-    pub step-out : (passes : BoundingBox → Bool) → passes (boxOf t n) ≡ false → pending t passes s (suc k) ≡ pending t passes s k
-    unfolding pending
-    step-out passes e = rw (below-out t passes (32 - k) n e)
+    step-node : (k < 32) × (n < nodeCount t) × (n < getD s k 0)
+    step-node = (h .low, omega (arith, h .grows .0, h .nodes, h .within .0), omega (arith, h .grows .0, h .nodes))
 
     -- a leaf's items lie in the list, and are what the walk comes to
-    pub step-places : 0 < countOf t n → (countOf t n ≤ 4) × (startOf t n + countOf t n ≤ triangleCount m)
+    step-places : 0 < countOf t n → startOf t n + countOf t n ≤ triangleCount m
     step-places some =
-        let h = top s k p in
-        let places = leaf-places (32 - k) n (h .place) (h .node') (h .place') (h .subtree) some in
-        (places .1, omega (arith, places .0, places .2, chain-within s k (h .node') (h .place') (h .rest) .1))
+        let places = leaf-places (32 - k) n i (h .node') (h .item') (h .subtree) some in
+        omega (arith, places .0, places .1, h .items, h .within .1)
 
-    pub step-leaf : (passes : BoundingBox → Bool) → passes (boxOf t n) ≡ true → 0 < countOf t n → pending t passes s (suc k) ≡ itemsFrom (t .items) (startOf t n) (countOf t n) ++ pending t passes s k
-    unfolding pending
-    step-leaf passes e some = rw (below-leaf t passes (32 - k) n (omega (arith, top s k p .low)) e some)
+    step-leaf : 0 < countOf t n → pendingFrom t passes s (suc k) n ≡ itemsFrom (t .items) (startOf t n) (countOf t n) ++ pendingFrom t passes s k (getD s k 0)
+    unfolding pendingFrom
+    step-leaf some = rw (below-leaf t passes (32 - k) n (omega (arith, h .low)) (h .passed) some)
 
-    -- an inner node's children take its place, the left one on top
-    module _ (long : length s ≡ 32) (count : countOf t n ≡ 0) where
-      abbrev h : Top s k
-      h = top s k p
-
-      abbrev half : Halves (32 - k) n (h .place) (h .node') (h .place')
-      half = halves (32 - k) n (h .place) (h .node') (h .place') (h .subtree) count
+    -- an inner node
+    module _ (count : countOf t n ≡ 0) where
+      abbrev half : Halves (32 - k) n i (h .node') (h .item')
+      half = halves (32 - k) n i (h .node') (h .item') (h .subtree) count
 
       abbrev left : ℕ
       left = n + 1
@@ -179,168 +200,192 @@ module _ (m : Mesh) (t : Tree) where
       abbrev right : ℕ
       right = startOf t n
 
-      left-grows : (0 < half .less) × (left < right) × (h .place < half .middle)
-      left-grows = subtree-grows m t (half .less) left (h .place) right (half .middle) (half .left)
+      abbrev next : ℕ
+      next = getD s k 0
 
-      right-grows : (0 < half .less) × (right < h .node') × (half .middle < h .place')
-      right-grows = subtree-grows m t (half .less) right (half .middle) (h .node') (h .place') (half .right)
+      left-grows : (0 < half .less) × (left < right) × (i < half .middle)
+      left-grows = subtree-grows m t (half .less) left i right (half .middle) (half .left)
 
-      -- there is room for both, and the left one is a node of the tree
-      pub step-room : (k + 1 < 32) × (n + 1 < nodeCount t)
-      step-room =
-          (omega (arith, left-grows .0, half .deep), omega (arith, left-grows .1, right-grows .1, chain-within s k (h .node') (h .place') (h .rest) .0))
+      right-grows : (0 < half .less) × (right < h .node') × (half .middle < h .item')
+      right-grows = subtree-grows m t (half .less) right (half .middle) (h .node') (h .item') (half .right)
 
+      -- there is room for one more, and both children are nodes of the tree
+      step-room : (k + 1 < 32) × (left < right) × (right < nodeCount t)
+      step-room = (omega (arith, left-grows .0, half .deep), left-grows .1, omega (arith, right-grows .1, h .nodes, h .within .0))
+
+      step-some : {sides : ℕ} → Ready m sides t → (isEmpty (boxOf t left) ≡ false) × (isEmpty (boxOf t right) ≡ false)
+      step-some ready = (
+        node-some ready (half .less) left i right (half .middle) (half .left) (omega (arith, right-grows .2, h .items, h .within .1)),
+        node-some ready (half .less) right (half .middle) (h .node') (h .item') (half .right) (omega (arith, h .items, h .within .1)),
+      )
+
+      -- what the walk comes to below the node
+      pending-both : pendingFrom t passes s (suc k) n ≡ below t passes (half .less) left ++ (below t passes (half .less) right ++ pendingFrom t passes s k next)
+      unfolding pendingFrom
+      pending-both =
+          ap (λ l. l ++ pendingFrom t passes s k next) (ap (λ depth. below t passes depth n) (half .deep) ∙ below-inner t passes (half .less) n (h .passed) count)
+          ∙ append-assoc (below t passes (half .less) left) (below t passes (half .less) right) (pendingFrom t passes s k next)
+
+      -- a child in the place of the node
+      child-pending : (n i n' i' : ℕ) → Subtree m t (half .less) n i n' i' → pendingFrom t passes s (suc k) n ≡ below t passes (half .less) n ++ pendingFrom t passes s k next
+      unfolding pendingFrom
+      child-pending n i n' i' child =
+          ap (λ l. l ++ pendingFrom t passes s k next) (ap (λ depth. below t passes depth n) (half .deep) ∙ ap reached (visits-deeper (half .less) n i n' i' child))
+
+      left-alone : passes (boxOf t left) ≡ true → Chain m t passes s (suc k) left i
+      left-alone p =
+          let child : Subtree m t (32 - k) left i right (half .middle) = subst (λ depth. Subtree m t depth left i right (half .middle)) (sym (half .deep)) (deeper (half .less) left i right (half .middle) (half .left)) in
+          more {next = h .next} p child (omega (arith, right-grows .1, h .nodes)) (omega (arith, right-grows .2, h .items)) (h .rest)
+
+      right-alone : passes (boxOf t right) ≡ true → Chain m t passes s (suc k) right (half .middle)
+      right-alone p =
+          let child : Subtree m t (32 - k) right (half .middle) (h .node') (h .item') = subst (λ depth. Subtree m t depth right (half .middle) (h .node') (h .item')) (sym (half .deep)) (deeper (half .less) right (half .middle) (h .node') (h .item') (half .right)) in
+          more p child (h .nodes) (h .items) (h .rest)
+
+      -- the left child, with the right one behind it
       abbrev s' : List ℕ
-      s' = children s k left right
+      s' = set s (suc k) right
 
-      at-left : getD s' (k + 1) 0 ≡ left
-      at-left = getD-set-same (set s k right) (k + 1) left 0 (rw (length-set s k right, long) (step-room .0))
+      module _ (long : length s ≡ 32) where
+        at-right : getD s' (suc k) 0 ≡ right
+        at-right = getD-set-same s (suc k) right 0 (rw long (omega (arith, step-room .0)))
 
-      at-right : getD s' k 0 ≡ right
-      at-right = getD-set-other (set s k right) (k + 1) k left 0 (λ e. omega arith) ∙ getD-set-same s k right 0 (rw long (omega (arith, step-room .0)))
+        both : passes (boxOf t left) ≡ true → passes (boxOf t right) ≡ true → Chain m t passes s' (suc (suc k)) left i
+        both p q =
+            let low : 32 - suc k ≡ half .less = omega (arith, half .deep) in
+            let child : Subtree m t (32 - suc k) left i right (half .middle) = rw low (half .left) in
+            more p child (rw at-right (le-refl right)) (le-refl (half .middle)) (rw at-right (chain-set s (suc k) right (suc k) right (half .middle) (le-refl (suc k)) (right-alone q)))
 
-      two : k + 2 ≡ suc (k + 1)
-      two = omega arith
+        both-pending : pendingFrom t passes s' (suc (suc k)) left ≡ pendingFrom t passes s (suc k) n
+        both-pending =
+            let low : 32 - suc k ≡ half .less = omega (arith, half .deep) in
+            let first : pendingFrom t passes s' (suc (suc k)) left ≡ below t passes (32 - suc k) left ++ pendingFrom t passes s' (suc k) (getD s' (suc k) 0) = unfold pendingFrom in refl in
+            first
+            ∙ rw (low, at-right, pending-set s (suc k) right (suc k) right (le-refl (suc k)), child-pending right (half .middle) (h .node') (h .item') (half .right)) (sym pending-both)
 
-      one : k + 1 ≡ suc k
-      one = omega arith
-
-      pub step-children : Pending m t s' (k + 2)
-      step-children =
-          let low : half .less ≡ 32 - (k + 1) = omega (arith, half .deep) in
-          let high : suc (half .less) ≡ 32 - k = sym (half .deep) in
-          let below-both : Chain m t s' k (h .node') (h .place') = chain-set (set s k right) (k + 1) left k (h .node') (h .place') (omega arith) (chain-set s k right k (h .node') (h .place') (omega arith) (h .rest)) in
-          let from-right : Chain m t s' (suc k) right (half .middle) = more at-right (rw high at (deeper (half .less) right (half .middle) (h .node') (h .place') (half .right))) below-both in
-          record { node = left; place = h .place; chain = subst (λ j. Chain m t s' j left (h .place)) (sym two) (more at-left (rw low at (half .left)) (subst (λ j. Chain m t s' j right (half .middle)) (sym one) from-right)) }
-
-      pub step-children-less : ahead t s' (k + 2) < nodeCount t - n
-      unfolding ahead
-      step-children-less = rw (two, at-left) (omega (arith, step-room .1))
-
-      pending-right : (passes : BoundingBox → Bool) → pending t passes s' (suc k) ≡ below t passes (half .less) right ++ pending t passes s k
-      unfolding pending
-      pending-right passes =
-          let same : below t passes (suc (half .less)) right ≡ below t passes (half .less) right = ap reached (visits-deeper passes (half .less) right (half .middle) (h .node') (h .place') (half .right)) in
-          let lower : pending t passes s' k ≡ pending t passes s k = pending-set passes (set s k right) (k + 1) left k (omega arith) ∙ pending-set passes s k right k (omega arith) in
-          rw (at-right, lower) (ap (λ l. l ++ pending t passes s k) (ap (λ depth. below t passes depth right) (half .deep) ∙ same))
-
-      pending-left : (passes : BoundingBox → Bool) → pending t passes s' (suc (k + 1)) ≡ below t passes (half .less) left ++ pending t passes s' (k + 1)
-      unfolding pending
-      pending-left passes =
-          let low : 32 - (k + 1) ≡ half .less = omega (arith, half .deep) in
-          rw (at-left, low)
-
-      pub step-inner : (passes : BoundingBox → Bool) → passes (boxOf t n) ≡ true → pending t passes s (suc k) ≡ pending t passes s' (k + 2)
-      step-inner passes e =
-          let here : pending t passes s (suc k) ≡ (below t passes (half .less) left ++ below t passes (half .less) right) ++ pending t passes s k = unfold pending in ap (λ l. l ++ pending t passes s k) (ap (λ depth. below t passes depth n) (half .deep) ∙ below-inner t passes (half .less) n e count) in
-          here
-          ∙ append-assoc (below t passes (half .less) left) (below t passes (half .less) right) (pending t passes s k)
-          ∙ sym (ap (pending t passes s') two ∙ pending-left passes ∙ ap (λ rest. below t passes (half .less) left ++ rest) (ap (pending t passes s') one ∙ pending-right passes))
+        step-inner : (enters follows : Bool) → passes (boxOf t left) ≡ enters → passes (boxOf t right) ≡ follows
+            → let at = place n (suc k) in
+            let at' = advanced s at left right enters follows in
+            Onward m t passes s at (pushed s at right enters) at' × (n < at' .node)
+        step-inner true true p q =
+            (record { walking = record { long = rw (length-set s (suc k) right) long; first = i; chain = rw (add-one (suc k)) (both p q) }; same = rw (add-one (suc k)) both-pending; further = omega arith }, omega arith)
+        step-inner true false p q = (
+          record {
+            walking = record { long = rw (length-set s (suc k) right) long; first = i; chain = chain-set s (suc k) right (suc k) left i (le-refl (suc k)) (left-alone p) };
+            same =
+                pending-set s (suc k) right (suc k) left (le-refl (suc k))
+                ∙ child-pending left i right (half .middle) (half .left)
+                ∙ sym (rw (below-out t passes (half .less) right q) at pending-both);
+            further = omega arith;
+          },
+          omega arith,
+        )
+        step-inner false true p q = (
+          record {
+            walking = record { long = long; first = half .middle; chain = right-alone q };
+            same = child-pending right (half .middle) (h .node') (h .item') (half .right) ∙ sym (rw (below-out t passes (half .less) left p) at pending-both);
+            further = omega (arith, step-room .1);
+          },
+          omega (arith, step-room .1),
+        )
+        step-inner false false p q =
+            subst
+            (λ at'. Onward m t passes s (place n (suc k)) s at' × (n < at' .node))
+            (sym (popped-last s n k)) (
+              record {
+                walking = record { long = long; first = h .next; chain = h .rest };
+                same = sym (rw (below-out t passes (half .less) left p, below-out t passes (half .less) right q) at pending-both);
+                further = omega (arith, step-node .2);
+              },
+              step-node .2,
+            )
 
 -- ---- a walk
 
--- the state of a walk: a stack of 32 places, whose lowest `height` entries are still to be visited
-pub record Walking (m : Mesh) (t : Tree) (s : List ℕ) (height : ℕ) : Type 0 where
-  pub long : length s ≡ 32
-  pub entries : Pending m t s height
+-- what is known where a walk is at an inner node n, with so many subtrees still to be visited
+pub record Inner (m : Mesh) (t : Tree) (passes : BoundingBox → Bool) (s : List ℕ) (n height : ℕ) : Type 0 where
+  pub room : (height < 32) × (n + 1 < startOf t n) × (startOf t n < nodeCount t)
+  pub boxes : (sides : ℕ) → Ready m sides t → (isEmpty (boxOf t (n + 1)) ≡ false) × (isEmpty (boxOf t (startOf t n)) ≡ false)
+  pub step : (enters follows : Bool) → passes (boxOf t (n + 1)) ≡ enters → passes (boxOf t (startOf t n)) ≡ follows
+      → let at = place n height in
+      let at' = advanced s at (n + 1) (startOf t n) enters follows in
+      Onward m t passes s at (pushed s at (startOf t n) enters) at' × (n < at' .node)
 
--- one step from there: the highest entry, node `here` at place `last`, is taken off
-module _ {m : Mesh} {t : Tree} {s : List ℕ} {height : ℕ} (w : Walking m t s height) (some : 0 < height) where
-  abbrev last : ℕ
-  last = height - 1
-
-  abbrev here : ℕ
-  here = getD s last 0
-
-  whole : height ≡ suc last
-  whole = omega arith
-
-  all : Pending m t s (suc last)
-  all = subst (Pending m t s) whole (w .entries)
-
-  from-last : (passes : BoundingBox → Bool) → pending t passes s height ≡ pending t passes s (suc last)
-  from-last passes = ap (pending t passes s) whole
-
-  ahead-of : ahead t s height ≡ nodeCount t - here
-  ahead-of = ap (ahead t s) whole ∙ (unfold ahead in refl)
-
-  -- the entry is a node of the tree
-  pub node-there : (last < 32) × (here < nodeCount t)
-  node-there = step-node m t s last all
-
-  -- its box is not empty
-  pub node-not-empty : {sides : ℕ} → Ready m sides t → isEmpty (boxOf t here) ≡ false
-  node-not-empty r =
-      let h = top m t s last all in
-      node-some r (32 - last) here (h .place) (h .node') (h .place') (h .subtree) (chain-within m t s last (h .node') (h .place') (h .rest) .1)
-
-  -- a node that is passed by, or whose items were looked at
-  pub after-out : Walking m t s last
-  after-out = record { long = w .long; entries = step-rest m t s last all }
-
-  pub out-less : ahead t s last < ahead t s height
-  out-less = rw ahead-of (step-rest-less m t s last all)
-
-  pub out-pending : (passes : BoundingBox → Bool) → passes (boxOf t here) ≡ false → pending t passes s height ≡ pending t passes s last
-  out-pending passes e = from-last passes ∙ step-out m t s last all passes e
-
+-- and at any node
+pub record Here (m : Mesh) (t : Tree) (passes : BoundingBox → Bool) (s : List ℕ) (n height : ℕ) : Type 0 where
+  pub low : height < 33
+  pub there : n < nodeCount t
+  pub inner : countOf t n ≡ 0 → Inner m t passes s n height
   -- a leaf
-  pub leaf-within : 0 < countOf t here → startOf t here + countOf t here ≤ triangleCount m
-  leaf-within h = step-places m t s last all h .1
+  pub places : 0 < countOf t n → startOf t n + countOf t n ≤ triangleCount m
+  pub leaf : 0 < countOf t n → pendingFrom t passes s height n ≡ itemsFrom (t .items) (startOf t n) (countOf t n) ++ pending t passes s (popped s (place n height))
+  -- past all that is below the node
+  pub after : Walking m t passes s (popped s (place n height))
+  pub after-further : n < popped s (place n height) .node
 
-  pub leaf-pending : (passes : BoundingBox → Bool) → passes (boxOf t here) ≡ true → 0 < countOf t here → pending t passes s height ≡ itemsFrom (t .items) (startOf t here) (countOf t here) ++ pending t passes s last
-  leaf-pending passes e h = from-last passes ∙ step-leaf m t s last all passes e h
+module _ {m : Mesh} {t : Tree} {passes : BoundingBox → Bool} where
+  pub here : {s : List ℕ} {at : Place} → Walking m t passes s at → 0 < at .height → Here m t passes s (at .node) (at .height)
+  here {s} {at} w some = go (at .node) (at .height) (w .chain) some
+    where
+      go : (n height : ℕ) → Chain m t passes s height n (w .first) → 0 < height → Here m t passes s n height
+      go n zero c h = absurd (omega arith)
+      go n (suc k) c h =
+          let first = w .first in
+          let step = step-node m t passes s k n first c in
+          record {
+            low = omega (arith, step .0);
+            there = step .1;
+            after = subst (Walking m t passes s) (sym (popped-last s n k)) (record { long = w .long; first = top m t passes s k n first c .next; chain = top m t passes s k n first c .rest });
+            after-further = subst (λ at. n < at .node) (sym (popped-last s n k)) (step .2);
+            places = step-places m t passes s k n first c;
+            leaf = λ some. step-leaf m t passes s k n first c some ∙ ap (λ at. itemsFrom (t .items) (startOf t n) (countOf t n) ++ pending t passes s at) (sym (popped-last s n k));
+            inner = λ count.
+                let room = step-room m t passes s k n first c count in
+                record {
+                  room = (omega (arith, room .0), room .1, room .2);
+                  boxes = λ sides ready. step-some m t passes s k n first c count ready;
+                  step = step-inner m t passes s k n first c count (w .long);
+                };
+          }
 
-  -- an inner node
-  module _ (count : countOf t here ≡ 0) where
-    abbrev stack : List ℕ
-    stack = children s last (here + 1) (startOf t here)
+  pub onward-none : {s : List ℕ} {at : Place} → Walking m t passes s at → Onward m t passes s at s at
+  onward-none w = record { walking = w; same = refl; further = le-refl _ }
 
-    pub inner-room : (last + 1 < 32) × (here + 1 < nodeCount t)
-    inner-room = step-room m t s last all (w .long) count
-
-    pub after-inner : Walking m t stack (last + 2)
-    after-inner = record { long = simp length-set (w .long); entries = step-children m t s last all (w .long) count }
-
-    pub inner-less : ahead t stack (last + 2) < ahead t s height
-    inner-less = rw ahead-of (step-children-less m t s last all (w .long) count)
-
-    pub inner-pending : (passes : BoundingBox → Bool) → passes (boxOf t here) ≡ true → pending t passes s height ≡ pending t passes stack (last + 2)
-    inner-pending passes e = from-last passes ∙ step-inner m t s last all (w .long) count passes e
+  pub onward-more : {s s' s'' : List ℕ} {at at' at'' : Place} → Onward m t passes s at s' at' → Onward m t passes s' at' s'' at'' → Onward m t passes s at s'' at''
+  onward-more one two = record { walking = two .walking; same = two .same ∙ one .same; further = omega (arith, one .further, two .further) }
 
 -- ---- the start
 
--- the height of the stack at the start: the root stands on it, if there is a node
-abbrev pub startHeight : List ℕ → ℕ
-startHeight nodes = cond (ltb (length nodes) 2) 0 1
+module _ (m : Mesh) (t : Tree) (rules : TreeRules m t) (some : 2 ≤ length (t .nodes)) where
+  root : Subtree m t 32 0 0 (nodeCount t) (triangleCount m)
+  unfolding nodeCount
+  root = ⊎-elim (λ h. absurd (omega (arith, h .1))) (λ h. h .1) (rules .tree)
 
-start-pending : (m : Mesh) (t : Tree) → TreeRules m t → Pending m t (replicate 32 0) (startHeight (t .nodes))
-unfolding nodeCount
-start-pending m t rules =
-    by-test
-    (ltb (length (t .nodes)) 2)
-    (λ e. rw e (record { node = 0; place = 0; chain = nothing (ltb-true (length (t .nodes)) 2 e) }))
-    (λ e. rw e (record { node = 0; place = 0; chain = root (ltb-false (length (t .nodes)) 2 e) }))
-  where
-    nothing : length (t .nodes) < 2 → Chain m t (replicate 32 0) 0 0 0
-    nothing few =
-        ⊎-elim
-        (λ h. none (sym (h .1)) (sym (h .0)))
-        (λ h. absurd (omega (arith, subtree-grows m t 32 0 0 (nodeCount t) (triangleCount m) (h .1) .1)))
-        (rules .tree)
+  pub root-some : {sides : ℕ} → Ready m sides t → isEmpty (boxOf t 0) ≡ false
+  root-some ready = node-some ready 32 0 0 (nodeCount t) (triangleCount m) root (le-refl (triangleCount m))
 
-    root : 2 ≤ length (t .nodes) → Chain m t (replicate 32 0) 1 0 0
-    root some = ⊎-elim (λ h. absurd (omega (arith, h .1))) (λ h. more {k = 0} {n = 0} {i = 0} (getD-replicate 32 0 0 0 (omega arith)) (h .1) (none refl refl)) (rules .tree)
+  -- a walk starts at the root, if its box passes
+  pub start : (passes : BoundingBox → Bool) → passes (boxOf t 0) ≡ true → Walking m t passes (replicate 32 (length (t .nodes) / 2)) (place 0 1)
+  unfolding nodeCount
+  start passes p =
+      let s = replicate 32 (length (t .nodes) / 2) in
+      let bottom : getD s 0 0 ≡ nodeCount t = getD-replicate 32 0 (length (t .nodes) / 2) 0 (omega arith) in
+      record {
+        long = length-replicate {A = ℕ} 32 (length (t .nodes) / 2);
+        first = 0;
+        chain = more {k = 0} {n' = nodeCount t} {i' = triangleCount m} p root (rw bottom (le-refl (nodeCount t))) (le-refl (triangleCount m)) (none {n = getD s 0 0} (rw bottom (le-refl (nodeCount t))) (le-refl (triangleCount m)));
+      }
 
--- a walk starts with the root as the only entry
-pub start : (m : Mesh) (t : Tree) → TreeRules m t → Walking m t (replicate 32 0) (startHeight (t .nodes))
-start m t rules = record { long = length-replicate {A = ℕ} 32 0; entries = start-pending m t rules }
+-- from there it comes to all that it comes to
+pub start-same : (t : Tree) (passes : BoundingBox → Bool) (s : List ℕ) → 2 ≤ length (t .nodes) → pending t passes s (place 0 1) ≡ reached (allVisits t passes)
+unfolding pendingFrom allVisits nodeCount
+start-same t passes s some = rw (ne-eqb (length (t .nodes) / 2) 0 (λ z. omega arith)) (append-nil (below t passes 32 0))
 
--- from there a walk comes to all that it comes to
-pub start-same : (t : Tree) (passes : BoundingBox → Bool) → pending t passes (replicate 32 0) (startHeight (t .nodes)) ≡ reached (allVisits t passes)
-unfolding pending allVisits nodeCount
-start-same t passes =
-    by-test
-    (ltb (length (t .nodes)) 2)
-    (λ e. let few = ltb-true (length (t .nodes)) 2 e in rw (e, eq-eqb (length (t .nodes) / 2) 0 (omega arith)) (unfold reached in refl))
-    (λ e. let some = ltb-false (length (t .nodes)) 2 e in rw (e, ne-eqb (length (t .nodes) / 2) 0 (λ z. omega arith)) (append-nil (below t passes 32 0)))
+-- it comes to nothing if there is no root, or its box does not pass
+pub no-root : (t : Tree) (passes : BoundingBox → Bool) → length (t .nodes) < 2 → reached (allVisits t passes) ≡ []
+unfolding allVisits nodeCount reached
+no-root t passes few = rw (eq-eqb (length (t .nodes) / 2) 0 (omega arith)) refl
+
+pub root-out : (t : Tree) (passes : BoundingBox → Bool) → passes (boxOf t 0) ≡ false → reached (allVisits t passes) ≡ []
+unfolding allVisits
+root-out t passes e = by-test (eqb (nodeCount t) 0) (λ z. rw z (unfold reached in refl)) (λ z. rw z (below-out t passes 32 0 e))

@@ -10,6 +10,13 @@ pub struct Node {
     pub count: usize,
 }
 
+// Where a walk is: at the root of a subtree that is to be visited, with so many to come, this one included. The roots of
+// the others are on the walk's stack, the next one at place `height - 1`; place 0 has the number of nodes.
+pub struct Place {
+    pub node: usize,
+    pub height: usize,
+}
+
 // Node `n`.
 pub fn node_at(nodes: &[u32], n: usize) -> Node
     requires { ⌜ 2 * n + 1 < length (now nodes) ⌝ }
@@ -21,18 +28,52 @@ pub fn node_at(nodes: &[u32], n: usize) -> Node
     }
 }
 
-// How many entries a walk's stack has at the start: the root, node 0, if there is a node.
-pub fn start_height(nodes: &[u32]) -> usize
-    ensures { λ r. ⌜ r ≡ Stacks.startHeight (now (nodes .entry)) ⌝ }
+// How high the stack is with one more subtree to come, or with none.
+fn raised(height: usize, more: bool) -> usize
+    requires { ⌜ height < 32 ⌝ }
+    ensures { λ r. ⌜ r ≡ Stacks.raised height more ⌝ }
 {
-    if nodes.len() < 2 { 0 } else { 1 }
+    if more { height + 1 } else { height }
 }
 
-// Puts an inner node's children in its place at `k` on a walk's stack, the left one on top.
-pub fn push_children(stack: &mut [usize; 32], k: usize, left: usize, right: usize)
-    requires { ⌜ k + 1 < 32 ⌝ }
-    ensures { λ _. ⌜ now (stack .exit) ≡ Stacks.children (now (stack .entry)) k left right ⌝ }
+// The place after all that is below this one.
+pub fn popped(stack: &[usize; 32], at: Place) -> Place
+    requires { ⌜ (0 < at .height) × (at .height < 33) ⌝ }
+    ensures { λ r. ⌜ r ≡ Stacks.popped (now (stack .entry)) at ⌝ }
 {
-    stack[k] = right;
-    stack[k + 1] = left;
+    let k = at.height - 1;
+    Place {
+        node: stack[k],
+        height: k,
+    }
+}
+
+// The place after an inner node: the left child, the right one, or what comes after both, as their boxes passed. The right
+// child is stored in any case, since a branch on its test would often be foretold wrongly.
+pub fn advance(
+    stack: &mut [usize; 32],
+    at: Place,
+    left: usize,
+    right: usize,
+    enters: bool,
+    follows: bool,
+) -> Place
+    requires { ⌜ (0 < at .height) × (at .height < 32) ⌝ }
+    ensures { λ r. ⌜ (r ≡ Stacks.advanced (now (stack .entry)) at left right enters follows) × (now (stack .exit) ≡ Stacks.pushed (now (stack .entry)) at right enters) ⌝ }
+{
+    if enters {
+        let k = at.height;
+        stack[k] = right;
+        return Place {
+            node: left,
+            height: raised(k, follows),
+        };
+    }
+    if follows {
+        return Place {
+            node: right,
+            height: at.height,
+        };
+    }
+    popped(stack, at)
 }

@@ -11,10 +11,12 @@ ghost use Rattle.intersect.specs.Rays as Rays;
 ghost use Rattle.scan.specs.Scan as Scan;
 ghost use Rattle.scan.specs.ScanLaws as ScanLaws;
 ghost use Rattle.walks.specs.Planes as Planes;
+ghost use Rattle.walks.specs.Stacks as Stacks;
 ghost use Rattle.walks.specs.Walks as Walks;
+use crate::nodes::Place;
+use crate::nodes::advance;
 use crate::nodes::node_at;
-use crate::nodes::push_children;
-use crate::nodes::start_height;
+use crate::nodes::popped;
 use intersect::rays::RayHit;
 use intersect::rays::overlap;
 use intersect::rays::ray_hits_box;
@@ -184,6 +186,38 @@ fn leaf_vote(
     vote
 }
 
+// The next leaf that the ray walk comes to, from a place on, or its end.
+fn next_leaf(
+    coords: &[f64],
+    corners: &[u32],
+    ends: &[u32],
+    sides: usize,
+    boxes: &[f64],
+    nodes: &[u32],
+    items: &[u32],
+    ray: Ray,
+    stack: &mut [usize; 32],
+    from: Place,
+) -> Place
+    requires { ⌜ Walks.Ready (Mesh.mesh (now coords) (now corners) (now ends)) sides (Tree.tree (now boxes) (now nodes) (now items)) × Walks.Cast ray × Stacks.Walking (Mesh.mesh (now coords) (now corners) (now ends)) (Tree.tree (now boxes) (now nodes) (now items)) (Scan.rayPasses (ray .direction) (ray .origin)) (now stack) from ⌝ }
+    ensures { λ r. ⌜ Stacks.NextLeaf (Mesh.mesh (now (coords .entry)) (now (corners .entry)) (now (ends .entry))) (Tree.tree (now (boxes .entry)) (now (nodes .entry)) (now (items .entry))) (Scan.rayPasses (ray .direction) (ray .origin)) (now (stack .entry)) from (now (stack .exit)) r ⌝ }
+{
+    let mut at = from;
+    while at.height > 0 {
+        let n = at.node;
+        let node = node_at(nodes, n);
+        if node.count > 0 {
+            return at;
+        }
+        let left = n + 1;
+        let right = node.start;
+        let enters = hits_node(boxes, left, ray);
+        let follows = hits_node(boxes, right, ray);
+        at = advance(stack, at, left, right, enters, follows);
+    }
+    at
+}
+
 // The vote of a direction: what the ray walk comes to, up to the first degenerate triangle.
 pub fn ray_walk(
     coords: &[f64],
@@ -198,35 +232,47 @@ pub fn ray_walk(
     requires { ⌜ Walks.Ready (Mesh.mesh (now coords) (now corners) (now ends)) sides (Tree.tree (now boxes) (now nodes) (now items)) × Walks.Cast ray ⌝ }
     ensures { λ r. ⌜ r ≡ Walks.walkVote (Mesh.mesh (now (coords .entry)) (now (corners .entry)) (now (ends .entry))) (Tree.tree (now (boxes .entry)) (now (nodes .entry)) (now (items .entry))) (ray .origin) (ray .direction) ⌝ }
 {
-    let mut stack = [0; 32];
-    let mut top = start_height(nodes);
-    let mut vote = Vote::Even;
-    while top > 0 {
-        let k = top - 1;
-        let n: usize = stack[k];
-        top = k;
-        if hits_node(boxes, n, ray) {
-            let node = node_at(nodes, n);
-            if node.count == 0 {
-                push_children(&mut stack, k, n + 1, node.start);
-                top = k + 2;
-            } else {
-                vote = leaf_vote(
-                    coords,
-                    corners,
-                    ends,
-                    sides,
-                    items,
-                    node.start,
-                    node.count,
-                    ray,
-                    vote,
-                );
-                if let Vote::None = vote {
-                    return Vote::None;
-                }
-            }
-        }
+    if nodes.len() < 2 {
+        return Vote::Even;
     }
-    vote
+    if !hits_node(boxes, 0, ray) {
+        return Vote::Even;
+    }
+    let mut stack = [nodes.len() / 2; 32];
+    let mut at = Place { node: 0, height: 1 };
+    let mut vote = Vote::Even;
+    loop {
+        at = next_leaf(
+            coords,
+            corners,
+            ends,
+            sides,
+            boxes,
+            nodes,
+            items,
+            ray,
+            &mut stack,
+            at,
+        );
+        if at.height == 0 {
+            return vote;
+        }
+        let n = at.node;
+        let leaf = node_at(nodes, n);
+        vote = leaf_vote(
+            coords,
+            corners,
+            ends,
+            sides,
+            items,
+            leaf.start,
+            leaf.count,
+            ray,
+            vote,
+        );
+        if let Vote::None = vote {
+            return Vote::None;
+        }
+        at = popped(&stack, at);
+    }
 }
