@@ -6,4 +6,5 @@ pub mod WalkTheorem
 pub mod WalkScan
 pub mod ReadyLaws
 pub mod Stacks
+pub mod Leaves
 pub mod Votes

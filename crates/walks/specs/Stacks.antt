@@ -63,7 +63,7 @@ abbrev pub place : ℕ → ℕ → Place
 place n height = record { node = n; height = height }
 
 abbrev pub raised : ℕ → Bool → ℕ
-raised height one = cond one (height + 1) height
+raised count one = cond one (count + 1) count
 
 -- past all that is below a place
 abbrev pub popped : List ℕ → Place → Place
@@ -115,8 +115,8 @@ module _ (m : Mesh) (t : Tree) (passes : BoundingBox → Bool) where
   halves _ n i n' i' (inner {depth} {middle = middle} count left right around) e = record { less = depth; middle = middle; deep = refl; left = left; right = right }
 
   -- the item places of a leaf
-  leaf-places : (depth n i n' i' : ℕ) → Subtree m t depth n i n' i' → 0 < countOf t n → (startOf t n ≡ i) × (i' ≡ i + countOf t n)
-  leaf-places _ n i n' i' (leaf some few start nodes places around) h = (start, places)
+  leaf-places : (depth n i n' i' : ℕ) → Subtree m t depth n i n' i' → 0 < countOf t n → (startOf t n ≡ i) × (i' ≡ i + countOf t n) × (countOf t n ≤ 4)
+  leaf-places _ n i n' i' (leaf some few start nodes places around) h = (start, places, few)
   leaf-places _ n i n' i' (inner count left right around) h = absurd (omega arith)
 
   -- the subtrees lie within the tree
@@ -180,10 +180,10 @@ module _ (m : Mesh) (t : Tree) (passes : BoundingBox → Bool) where
     step-node = (h .low, omega (arith, h .grows .0, h .nodes, h .within .0), omega (arith, h .grows .0, h .nodes))
 
     -- a leaf's items lie in the list, and are what the walk comes to
-    step-places : 0 < countOf t n → startOf t n + countOf t n ≤ triangleCount m
+    step-places : 0 < countOf t n → (startOf t n + countOf t n ≤ triangleCount m) × (countOf t n ≤ 4)
     step-places some =
         let places = leaf-places (32 - k) n i (h .node') (h .item') (h .subtree) some in
-        omega (arith, places .0, places .1, h .items, h .within .1)
+        (omega (arith, places .0, places .1, h .items, h .within .1), places .2)
 
     step-leaf : 0 < countOf t n → pendingFrom t passes s (suc k) n ≡ itemsFrom (t .items) (startOf t n) (countOf t n) ++ pendingFrom t passes s k (getD s k 0)
     unfolding pendingFrom
@@ -317,7 +317,7 @@ pub record Here (m : Mesh) (t : Tree) (passes : BoundingBox → Bool) (s : List 
   pub there : n < nodeCount t
   pub inner : countOf t n ≡ 0 → Inner m t passes s n height
   -- a leaf
-  pub places : 0 < countOf t n → startOf t n + countOf t n ≤ triangleCount m
+  pub places : 0 < countOf t n → (startOf t n + countOf t n ≤ triangleCount m) × (countOf t n ≤ 4)
   pub leaf : 0 < countOf t n → pendingFrom t passes s height n ≡ itemsFrom (t .items) (startOf t n) (countOf t n) ++ pending t passes s (popped s (place n height))
   -- past all that is below the node
   pub after : Walking m t passes s (popped s (place n height))

@@ -28,12 +28,12 @@ pub fn node_at(nodes: &[u32], n: usize) -> Node
     }
 }
 
-// How high the stack is with one more subtree to come, or with none.
-fn raised(height: usize, more: bool) -> usize
-    requires { ⌜ height < 32 ⌝ }
-    ensures { λ r. ⌜ r ≡ Stacks.raised height more ⌝ }
+// One more, or not.
+pub fn raised(count: usize, more: bool) -> usize
+    requires { ⌜ count < 32 ⌝ }
+    ensures { λ r. ⌜ r ≡ Stacks.raised count more ⌝ }
 {
-    if more { height + 1 } else { height }
+    if more { count + 1 } else { count }
 }
 
 // The place after all that is below this one.

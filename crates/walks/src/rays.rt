@@ -1,6 +1,7 @@
 // The ray walk: the vote of a direction. The definitions are in crate scan, specs/Scan.antt, and in specs/Walks.antt.
 ghost use mathlib.Core.Path.{_≡_};
 ghost use Prim.Native.Nat.{_+_, _≤_, _<_};
+ghost use mathlib.Core.Bool.{true};
 ghost use mathlib.Core.List.{map};
 ghost use lib.ListN.{length};
 ghost use Rattle.mesh.specs.Boxes.{Corners};
@@ -10,6 +11,7 @@ ghost use Rattle.tree.specs.Tree as Tree;
 ghost use Rattle.intersect.specs.Rays as Rays;
 ghost use Rattle.scan.specs.Scan as Scan;
 ghost use Rattle.scan.specs.ScanLaws as ScanLaws;
+ghost use Rattle.walks.specs.Leaves as Leaves;
 ghost use Rattle.walks.specs.Planes as Planes;
 ghost use Rattle.walks.specs.Stacks as Stacks;
 ghost use Rattle.walks.specs.Walks as Walks;
@@ -17,6 +19,7 @@ use crate::nodes::Place;
 use crate::nodes::advance;
 use crate::nodes::node_at;
 use crate::nodes::popped;
+use crate::nodes::raised;
 use intersect::rays::RayHit;
 use intersect::rays::overlap;
 use intersect::rays::ray_hits_box;
@@ -144,18 +147,50 @@ fn crossing(coords: &[f64], ray: Ray, t: Triangle) -> RayHit
     ray_triangle(ray.origin, ray.direction, a, b, c)
 }
 
-// What the ray finds at triangle `t`: a miss unless its own box passes.
-fn found(coords: &[f64], corners: &[u32], ends: &[u32], sides: usize, ray: Ray, t: u32) -> RayHit
+// Whether the own box of triangle `t` passes.
+fn own_passes(coords: &[f64], corners: &[u32], ends: &[u32], sides: usize, ray: Ray, t: u32) -> bool
     requires { ⌜ Items.Item (Mesh.mesh (now coords) (now corners) (now ends)) sides t × Walks.Cast ray ⌝ }
-    ensures { λ r. ⌜ r ≡ Scan.found (Mesh.mesh (now (coords .entry)) (now (corners .entry)) (now (ends .entry))) (ray .direction) (ray .origin) t ⌝ }
+    ensures { λ r. ⌜ r ≡ Scan.rayPasses (ray .direction) (ray .origin) (Mesh.ownBox (Mesh.mesh (now (coords .entry)) (now (corners .entry)) (now (ends .entry))) t) ⌝ }
 {
     let triangle = mesh::triangles::triangle(corners, ends, sides, t as usize);
     let own = finite_box(coords, triangle);
-    if ray_hits_box(ray.origin, ray.inverse, own) {
-        crossing(coords, ray, triangle)
-    } else {
-        RayHit::Miss
+    ray_hits_box(ray.origin, ray.inverse, own)
+}
+
+// What the ray finds at triangle `t`, whose own box passes.
+fn found(coords: &[f64], corners: &[u32], ends: &[u32], sides: usize, ray: Ray, t: u32) -> RayHit
+    requires { ⌜ Items.Item (Mesh.mesh (now coords) (now corners) (now ends)) sides t × (Scan.rayPasses (ray .direction) (ray .origin) (Mesh.ownBox (Mesh.mesh (now coords) (now corners) (now ends)) t) ≡ true) ⌝ }
+    ensures { λ r. ⌜ r ≡ Scan.found (Mesh.mesh (now (coords .entry)) (now (corners .entry)) (now (ends .entry))) (ray .direction) (ray .origin) t ⌝ }
+{
+    let triangle = mesh::triangles::triangle(corners, ends, sides, t as usize);
+    crossing(coords, ray, triangle)
+}
+
+// Stores the triangles at `places` item places from `i` on whose own boxes pass, and says how many they are. Each is stored
+// before it is known whether it counts, so that no branch depends on its test and the next one can be read meanwhile.
+fn keep_passing(
+    coords: &[f64],
+    corners: &[u32],
+    ends: &[u32],
+    sides: usize,
+    items: &[u32],
+    i: usize,
+    places: usize,
+    ray: Ray,
+    kept: &mut [u32; 4],
+) -> usize
+    requires { ⌜ Items.Items (Mesh.mesh (now coords) (now corners) (now ends)) sides (now items) × (i + places ≤ length (now items)) × (places ≤ 4) × Walks.Cast ray × (length (now kept) ≡ 4) ⌝ }
+    ensures { λ r. ⌜ Leaves.Kept (Mesh.mesh (now (coords .entry)) (now (corners .entry)) (now (ends .entry))) sides (ray .direction) (ray .origin) (now (items .entry)) i places (now (kept .exit)) r ⌝ }
+{
+    let mut n = 0;
+    let mut k = 0;
+    while k < places {
+        let t = items[i + k];
+        kept[n] = t;
+        n = raised(n, own_passes(coords, corners, ends, sides, ray, t));
+        k += 1;
     }
+    n
 }
 
 // The vote so far, with what the ray finds at `places` item places from `i` on.
@@ -170,14 +205,25 @@ fn leaf_vote(
     ray: Ray,
     given: Vote,
 ) -> Vote
-    requires { ⌜ Items.Items (Mesh.mesh (now coords) (now corners) (now ends)) sides (now items) × (i + places ≤ length (now items)) × Walks.Cast ray ⌝ }
+    requires { ⌜ Items.Items (Mesh.mesh (now coords) (now corners) (now ends)) sides (now items) × (i + places ≤ length (now items)) × (places ≤ 4) × Walks.Cast ray ⌝ }
     ensures { λ r. ⌜ r ≡ ScanLaws.castOver (Scan.found (Mesh.mesh (now (coords .entry)) (now (corners .entry)) (now (ends .entry))) (ray .direction) (ray .origin)) given (Walks.itemsFrom (now (items .entry)) i places) ⌝ }
 {
-    let end = i + places;
+    let mut kept = [0; 4];
+    let n = keep_passing(
+        coords,
+        corners,
+        ends,
+        sides,
+        items,
+        i,
+        places,
+        ray,
+        &mut kept,
+    );
     let mut vote = given;
-    let mut k = i;
-    while k < end {
-        vote = vote.with(found(coords, corners, ends, sides, ray, items[k]));
+    let mut k = 0;
+    while k < n {
+        vote = vote.with(found(coords, corners, ends, sides, ray, kept[k]));
         if let Vote::None = vote {
             return Vote::None;
         }

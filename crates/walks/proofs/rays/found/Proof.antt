@@ -1,47 +1,23 @@
--- `found` meets its contract: the corners of a triangle of an accepted mesh are finite vertices, so its own box is not empty.
+-- `found` meets its contract: where the own box passes, the crossing is what is found.
 use mathlib.Core.Path.{sym}
 use Rattle.mesh.specs.Accepted.{fanned}
 use Rattle.mesh.specs.Triangles.{triangle}
-use Rattle.mesh.specs.Corners.{triangle-corners, triangle-finite}
-use Rattle.mesh.specs.Centers.{box-some}
-use Rattle.mesh.specs.Mesh.{ownBox}
-use Rattle.scan.specs.Scan.{rayPasses, found}
+use Rattle.mesh.specs.Corners.{triangle-corners}
+use Rattle.scan.specs.Scan.{found}
 use Rattle.walks.proofs.rays.found.Statement.{statement}
 use Rattle.walks.proofs.rays.found.Tie as tie
 
 triangle-requires : tie.Need-triangle-requires
 triangle-requires c κs = (fanned (c .before .before .before .pre .0 .accepted), c .before .before .before .pre .0 .sides, c .before .before .before .pre .0 .below)
 
-finite-box-requires : tie.Need-finite-box-requires
-finite-box-requires c κs =
-    let item = c .before .before .before .before .pre .0 in
-    rw (c .triangle .ensures) (triangle-corners _ _ _ (item .accepted) (c .before .before .before .before .args .t) (triangle 0 0 0) (item .below), triangle-finite _ _ _ (item .accepted) (c .before .before .before .before .args .t) (triangle 0 0 0) (item .below))
-
-ray-hits-box-requires : tie.Need-ray-hits-box-requires
-ray-hits-box-requires c κs =
-    let item = c .before .before .before .before .before .pre .0 in
-    record {
-      origin = c .before .before .before .before .before .pre .1 .origin;
-      direction = c .before .before .before .before .before .pre .1 .factors;
-      some = rw (c .finite-box .ensures, c .before .triangle .ensures) (box-some _ _ (triangle-finite _ _ _ (item .accepted) (c .before .before .before .before .before .args .t) (triangle 0 0 0) (item .below)));
-    }
-
 crossing-requires : tie.Need-crossing-requires
 crossing-requires c κs =
-    let item = c .before .before .before .before .before .before .before .pre .0 in
-    rw (c .before .before .before .triangle .ensures) (triangle-corners _ _ _ (item .accepted) (c .before .before .before .before .before .before .before .args .t) (triangle 0 0 0) (item .below))
+    let item = c .before .before .before .before .pre .0 in
+    rw (c .triangle .ensures) (triangle-corners _ _ _ (item .accepted) (c .before .before .before .before .args .t) (triangle 0 0 0) (item .below))
 
 returns : tie.Need-returns
-unfolding found rayPasses ownBox
-returns c =
-    rw (sym (c .before .before .before .before .triangle .ensures), sym (c .before .before .before .finite-box .ensures), sym (c .before .before .before .before .before .before .before .before .pre .1 .inverse), sym (c .before .before .ray-hits-box .ensures), c .before .if1 .taken) (c .crossing .ensures)
-
-returns-2 : tie.Need-returns-2
-unfolding found rayPasses ownBox
-returns-2 c =
-    rw (sym (c .before .before .before .triangle .ensures), sym (c .before .before .finite-box .ensures), sym (c .before .before .before .before .before .before .before .pre .1 .inverse), sym (c .before .ray-hits-box .ensures), c .if1 .left)
+unfolding found
+returns c = rw (c .before .before .before .before .before .pre .1, sym (c .before .triangle .ensures)) (c .crossing .ensures)
 
 pub found-spec : {M : Type 1} → statement M
-found-spec =
-    tie.close
-    (tie.spec triangle-requires finite-box-requires ray-hits-box-requires crossing-requires returns returns-2)
+found-spec = tie.close (tie.spec triangle-requires crossing-requires returns)

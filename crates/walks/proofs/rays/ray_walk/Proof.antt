@@ -69,7 +69,7 @@ leaf-vote-requires c κs =
     let node = c .node-at .ensures in
     let next = c .before .before .before .next-leaf .ensures in
     let here = Stacks.here (next .onward .walking) (omega arith) in
-    (ready-items (c .before .before .before .before .before .before .before .before .before .before .before .before .before .before .before .pre .0), omega (arith, node .0, node .1, c .before .before .before .before .before .before .before .before .before .before .before .before .before .before .before .pre .0 .rules .items, here .places (next .leaf (omega arith))), c .before .before .before .before .before .before .before .before .before .before .before .before .before .before .before .pre .1)
+    (ready-items (c .before .before .before .before .before .before .before .before .before .before .before .before .before .before .before .pre .0), omega (arith, node .0, node .1, c .before .before .before .before .before .before .before .before .before .before .before .before .before .before .before .pre .0 .rules .items, here .places (next .leaf (omega arith)) .0), omega (arith, node .1, here .places (next .leaf (omega arith)) .1), c .before .before .before .before .before .before .before .before .before .before .before .before .before .before .before .pre .1)
 
 enum-told : tie.Need-enum-told Inv-loop μ-loop
 enum-told c = search needs

@@ -59,7 +59,7 @@ leaf-touches-requires c κs =
     let node = c .node-at .ensures in
     let next = c .before .before .before .next-leaf .ensures in
     let here = Stacks.here (next .onward .walking) (omega arith) in
-    (ready-items (c .before .before .before .before .before .before .before .before .before .before .before .before .before .before .before .pre), omega (arith, node .0, node .1, c .before .before .before .before .before .before .before .before .before .before .before .before .before .before .before .pre .rules .items, here .places (next .leaf (omega arith))))
+    (ready-items (c .before .before .before .before .before .before .before .before .before .before .before .before .before .before .before .pre), omega (arith, node .0, node .1, c .before .before .before .before .before .before .before .before .before .before .before .before .before .before .before .pre .rules .items, here .places (next .leaf (omega arith)) .0))
 
 returns-4 : tie.Need-returns-4 Inv-loop μ-loop
 unfolding walkTouches surfaceWalk startOf countOf
