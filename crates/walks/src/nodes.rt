@@ -48,8 +48,8 @@ pub fn popped(stack: &[usize; 32], at: Place) -> Place
     }
 }
 
-// The place after an inner node: the left child, the right one, or what comes after both, as their boxes passed. The right
-// child is stored in any case, since a branch on its test would often be foretold wrongly.
+// The place after an inner node: the left child, the right one, or what comes after both, as their boxes passed. Before the
+// left child is entered the right one is stored, whether it passed or not: a branch on that would often be foretold wrongly.
 pub fn advance(
     stack: &mut [usize; 32],
     at: Place,

@@ -1,7 +1,7 @@
 -- `keep_passing` meets its contract. The invariant: those of the first k items whose own boxes pass are kept. The measure is the items that are left.
 use Prim.Native.Nat.{_+_, _-_, _≤_}
 use native.Mathlib.Omega.{arith}
-use mathlib.Core.Path.{_≡_, refl, sym, _∙_}
+use mathlib.Core.Path.{_≡_, refl, sym}
 use borrow.Author.Needs.{needs}
 use lib.ListN.{length, length-set}
 use Rattle.mesh.specs.Mesh.{mesh}
