@@ -132,9 +132,9 @@ module _ (text : List ℕ) (counts : Counts) (good : judged text ≡ Good counts
       rw (all, lines-drop k text (omega (arith, long)))
 
   -- three numbers a point
-  pub length-points : length (pointsOf counts (lines text)) ≡ 3 * counts .points
+  pub length-pointsOf : length (pointsOf counts (lines text)) ≡ 3 * counts .points
   unfolding pointsOf
-  length-points =
+  length-pointsOf =
       let k = counts .vertices + counts .triangles in
       omega (arith, length-numbers floatOf (drop k (lines text)), length-drop k (lines text), length-lines text, long)
 
@@ -167,7 +167,7 @@ module _ (text : List ℕ) (counts : Counts) (good : judged text ≡ Good counts
   pub points-found : (old new : List Float) → 1536 ≤ length old → new ≡ over (numbersOf floatOf (lines (take (length text - 36 * (counts .vertices + counts .triangles)) (drop (36 * (counts .vertices + counts .triangles)) text)))) old
       → (3 * counts .points ≤ length new) × (take (3 * counts .points) new ≡ pointsOf counts (lines text))
   points-found old new h e =
-      front-found (pointsOf counts (lines text)) old new (3 * counts .points) length-points (omega (arith, has .limits .points)) (unfold pointsOf in rw point-lines at e)
+      front-found (pointsOf counts (lines text)) old new (3 * counts .points) length-pointsOf (omega (arith, has .limits .points)) (unfold pointsOf in rw point-lines at e)
 
   points-finite : askFinite Refusals.Point 0 (points (pointsOf counts (lines text))) ≡ Passed
   unfolding pointsOf
@@ -182,9 +182,9 @@ module _ (text : List ℕ) (counts : Counts) (good : judged text ≡ Good counts
       let p = counts .points in
       let corners = length-numbers cornerOf (take t (drop v (lines text))) in
       let triangles = length-section text v t (omega (arith, long)) in
-      let whole = eq-eqb (length (pointsOf counts (lines text)) % 3) 0 (omega (arith, length-points)) in
-      let few = le-leb (length (pointsOf counts (lines text)) / 3) 65536 (omega (arith, length-points, has .limits .points)) in
-      let third = eq-eqb p (length (pointsOf counts (lines text)) / 3) (omega (arith, length-points)) in
+      let whole = eq-eqb (length (pointsOf counts (lines text)) % 3) 0 (omega (arith, length-pointsOf)) in
+      let few = le-leb (length (pointsOf counts (lines text)) / 3) 65536 (omega (arith, length-pointsOf, has .limits .points)) in
+      let third = eq-eqb p (length (pointsOf counts (lines text)) / 3) (omega (arith, length-pointsOf)) in
       record {
         corners = omega (arith, corners, triangles, has .limits .triangles);
         ends = omega (arith, corners, triangles, length-ends 0 t);
@@ -198,7 +198,7 @@ module _ (text : List ℕ) (counts : Counts) (good : judged text ≡ Good counts
   lists-found {listing₀} {listing₁} {result} lists =
       let m = meshOf counts (lines text) in
       let answers = answersTo m (pointsOf counts (lines text)) in
-      let count : length answers ≡ counts .points = omega (arith, length-answersTo m (pointsOf counts (lines text)), length-points) in
+      let count : length answers ≡ counts .points = omega (arith, length-answersTo m (pointsOf counts (lines text)), length-pointsOf) in
       let bytes = rw count at (length-listing answers) in
       record {
         answer = rw good (lists .answer ∙ listed-length (askColumn m (counts .points) (length listing₀)) (listingText answers) (listingLength (counts .points)) bytes);
