@@ -49,7 +49,7 @@ pub fn popped(stack: &[usize; 32], at: Place) -> Place
 }
 
 // The place after an inner node: the left child, the right one, or what comes after both, as their boxes passed. Before the
-// left child is entered the right one is stored, whether it passed or not: a branch on that would often be foretold wrongly.
+// left child is entered the right one is stored, whether it passed or not: a branch on that would often be predicted wrongly.
 pub fn advance(
     stack: &mut [usize; 32],
     at: Place,
