@@ -5,15 +5,15 @@ use Rattle.float.proofs.max.Tie as tie
 
 returns : tie.Need-returns
 unfolding max
-returns c = cc
+returns c = rw (c .if1 .taken)
 
 returns-2 : tie.Need-returns-2
 unfolding max
-returns-2 c = cc
+returns-2 c = rw (c .before .if1 .left, c .if2 .taken)
 
 returns-3 : tie.Need-returns-3
 unfolding max
-returns-3 c = cc
+returns-3 c = rw (c .before .if1 .left, c .if2 .left)
 
 pub max-spec : {M : Type 1} → statement M
 max-spec = tie.close (tie.spec returns returns-2 returns-3)

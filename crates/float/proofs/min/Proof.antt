@@ -6,7 +6,7 @@ use Rattle.float.proofs.min.Tie as tie
 
 returns : tie.Need-returns
 unfolding min
-returns c = cc
+returns c = rw (c .if1 .taken)
 
 returns-2 : tie.Need-returns-2
 unfolding min ne

@@ -38,7 +38,7 @@ corrected-requires c κs = search needs
 
 returns : tie.Need-returns
 unfolding guess
-returns c = cc
+returns c = rw (c .corrected .ensures, c .before .closer3 .ensures, c .before .before .closer2 .ensures, c .before .before .before .closer .ensures)
 
 pub guess-spec : {M : Type 1} → statement M
 guess-spec =

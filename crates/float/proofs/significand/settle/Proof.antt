@@ -1,28 +1,28 @@
--- `significand::settle` meets its contract. The products fit by the number of their digits. The three answers are one fact (`candidate`) on the difference u, which `difference` puts together from its parts.
-use mathlib.Core.Path.{_≡_, sym, _∙_}
-use Prim.Native.Nat.{ℕ, _+_, _-_, _*_, _/_, _%_, _^_}
-use native.Mathlib.Nat.{add-zero}
+-- `significand::settle` meets its contract. The products fit by the number of their digits. The three answers are the candidates' laws on the difference u, which `difference` puts together from its parts.
+use mathlib.Core.Path.{_≡_}
+use Prim.Native.Nat.{_+_, _*_, _^_}
+use native.Mathlib.Nat.{sub-pos-iff-lt}
 use native.Mathlib.Omega.{arith}
 use lib.Dec.{lit≤}
 use borrow.Author.Needs.{needs}
-use Rattle.float.proofs.Settling.{product-fits, difference, candidate}
+use Rattle.float.proofs.Settling.{u-of, difference, first-candidate, second-candidate, third-candidate, product-fits}
 use Rattle.float.proofs.significand.settle.Statement.{statement}
 use Rattle.float.proofs.significand.settle.Tie as tie
 
 returns : tie.Need-returns
-returns c = search needs
+returns c = tt
 
 returns-2 : tie.Need-returns-2
-returns-2 c = search needs
+returns-2 c = tt
 
 mul-aa : tie.Need-mul-aa
 mul-aa c = record { fits = product-fits 27 27 (lit≤ tt) (omega arith) (omega arith) }
 
 returns-3 : tie.Need-returns-3
-returns-3 c = search needs
+returns-3 c = tt
 
 returns-4 : tie.Need-returns-4
-returns-4 c = search needs
+returns-4 c = tt
 
 mul-ab : tie.Need-mul-ab
 mul-ab c = search needs
@@ -34,7 +34,7 @@ mul-if5 : tie.Need-mul-if5
 mul-if5 c = search needs
 
 returns-5 : tie.Need-returns-5
-returns-5 c = search needs
+returns-5 c = tt
 
 mul-d : tie.Need-mul-d
 mul-d c = search needs
@@ -43,7 +43,7 @@ sub-d : tie.Need-sub-d
 sub-d c = search needs
 
 returns-6 : tie.Need-returns-6
-returns-6 c = search needs
+returns-6 c = tt
 
 mul-bb : tie.Need-mul-bb
 mul-bb c = record { fits = product-fits 26 26 (lit≤ tt) (omega arith) (omega arith) }
@@ -55,7 +55,7 @@ add-if7 : tie.Need-add-if7
 add-if7 c = search needs
 
 returns-7 : tie.Need-returns-7
-returns-7 c = search needs
+returns-7 c = tt
 
 mul-u : tie.Need-mul-u
 mul-u c = search needs
@@ -70,23 +70,11 @@ mul-if8 : tie.Need-mul-if8
 mul-if8 c = search needs
 
 -- past the last test for a p far off, u is the difference
-u : ℕ → ℕ → ℕ
-u p w = ((w - p / 67108864 * (p / 67108864)) * 67108864 - 2 * (p / 67108864) * (p % 67108864)) * 67108864 + p - p % 67108864 * (p % 67108864)
-
-sum : (c : tie.Else7) → let p = c .before .before .before .before .before .before .before .args .p in let w = c .before .before .before .before .before .before .before .args .w in u p w + p * p ≡ w * 2 ^ 52 + p
-unfolding u
-sum c =
-    let p = c .before .before .before .before .before .before .before .args .p in
-    let w = c .before .before .before .before .before .before .before .args .w in
-    let a = p / 67108864 in
-    let b = p % 67108864 in
-    let t = w - a * a in
-    let d = t * 67108864 - 2 * a * b in
-    difference p w a b t d (d * 67108864 + p - b * b) (omega arith) (omega arith) (omega arith) (omega arith)
+past : (c : tie.Else7) → let p = c .before .before .before .before .before .before .before .args .p in let w = c .before .before .before .before .before .before .before .args .w in u-of p w + p * p ≡ w * 2 ^ 52 + p
+past c = difference (c .before .before .before .before .before .before .before .args .p) (c .before .before .before .before .before .before .before .args .w) (c .before .before .before .before .if3 .left) (c .before .before .if5 .left) (c .if7 .left)
 
 returns-8 : tie.Need-returns-8
-unfolding u
-returns-8 c = sym (add-zero _) ∙ candidate 0 _ _ _ (omega arith) (sum (c .before)) (omega arith) (omega arith)
+returns-8 c = first-candidate _ _ _ (c .before .before .before .before .before .before .if2 .left) (past (c .before)) (sub-pos-iff-lt .1 (c .before .if7 .left)) (c .if8 .taken)
 
 mul-if9 : tie.Need-mul-if9
 mul-if9 c = search needs
@@ -98,8 +86,7 @@ add-t14 : tie.Need-add-t14
 add-t14 c = search needs
 
 returns-9 : tie.Need-returns-9
-unfolding u
-returns-9 c = candidate 1 _ _ _ (omega arith) (sum (c .before .before)) (omega arith) (omega arith)
+returns-9 c = second-candidate _ _ _ (c .before .before .before .before .before .before .before .if2 .left) (past (c .before .before)) (c .before .if8 .left) (c .if9 .taken)
 
 mul-if10 : tie.Need-mul-if10
 mul-if10 c = search needs
@@ -111,11 +98,10 @@ add-t15 : tie.Need-add-t15
 add-t15 c = search needs
 
 returns-10 : tie.Need-returns-10
-unfolding u
-returns-10 c = candidate 2 _ _ _ (omega arith) (sum (c .before .before .before)) (omega arith) (omega arith)
+returns-10 c = third-candidate _ _ _ (c .before .before .before .before .before .before .before .before .if2 .left) (past (c .before .before .before)) (c .before .if9 .left) (c .if10 .taken)
 
 returns-11 : tie.Need-returns-11
-returns-11 c = search needs
+returns-11 c = tt
 
 pub settle-spec : {M : Type 1} → statement M
 settle-spec =
