@@ -1,6 +1,8 @@
 -- `significand::guess` meets its contract: both patterns lie below that of +∞, so none is a NaN's, and the steps are those of the definition.
+use mathlib.Core.Path.{_∙_, ap}
 use native.Mathlib.Omega.{arith}
-use Rattle.float.specs.Guess.{guess}
+use lib.Ieee.{Float, binary64, ofBits, mul}
+use Rattle.float.specs.Guess.{half, closer, corrected, pattern, guess}
 use Rattle.float.specs.Patterns.{number-pattern}
 use borrow.Author.Needs.{needs}
 use Rattle.float.proofs.significand.guess.Statement.{statement}
@@ -38,7 +40,10 @@ corrected-requires c κs = search needs
 
 returns : tie.Need-returns
 unfolding guess
-returns c = rw (c .corrected .ensures, c .before .closer3 .ensures, c .before .before .closer2 .ensures, c .before .before .before .closer .ensures)
+returns c =
+    let x = ofBits binary64 (pattern (c .before .before .before .before .args .digits) (c .before .before .before .before .args .odd)) in
+    let h = mul binary64 half x in
+    c .corrected .ensures ∙ ap (λ (y : Float). corrected x (mul binary64 x y) y) (c .before .closer3 .ensures ∙ ap (closer h) (c .before .before .closer2 .ensures ∙ ap (closer h) (c .before .before .before .closer .ensures)))
 
 pub guess-spec : {M : Type 1} → statement M
 guess-spec =
