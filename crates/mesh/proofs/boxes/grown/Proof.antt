@@ -15,7 +15,7 @@ expanded-requires c κs = search needs
 
 returns : tie.Need-returns
 unfolding grown
-returns c = cc
+returns c = rw (c .expanded .ensures, c .before .norm .ensures, c .before .before .size .ensures)
 
 pub grown-spec : {M : Type 1} → statement M
 grown-spec = tie.close (tie.spec size-requires norm-requires expanded-requires returns)

@@ -16,7 +16,7 @@ finite-box-requires c κs =
 
 returns : tie.Need-returns
 unfolding ownBox
-returns c = cc
+returns c = rw (c .finite-box .ensures, c .before .triangle .ensures)
 
 pub own-box-spec : {M : Type 1} → statement M
 own-box-spec = tie.close (tie.spec triangle-requires finite-box-requires returns)

@@ -15,7 +15,7 @@ surface-eps-requires c κs = search needs
 
 returns : tie.Need-returns
 unfolding prepare
-returns c = cc
+returns c = rw (c .surface-eps .ensures, c .before .grown .ensures, c .before .before .mesh-box .ensures)
 
 pub prepare-spec : {M : Type 1} → statement M
 prepare-spec = tie.close (tie.spec mesh-box-requires grown-requires surface-eps-requires returns)

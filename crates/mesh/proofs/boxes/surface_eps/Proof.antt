@@ -27,7 +27,7 @@ tol-of-requires c κs = search needs
 
 returns : tie.Need-returns
 unfolding surfaceEps
-returns c = cc
+returns c = rw (c .tol-of .ensures, c .before .max2 .ensures, c .before .before .norm3 .ensures, c .before .before .before .max .ensures, c .before .before .before .before .norm2 .ensures, c .before .before .before .before .before .norm .ensures, c .before .before .before .before .before .before .size .ensures)
 
 pub surface-eps-spec : {M : Type 1} → statement M
 surface-eps-spec =

@@ -27,7 +27,7 @@ include-requires-3 c κs = search needs
 
 returns : tie.Need-returns
 unfolding triangleBox
-returns c = cc
+returns c = rw (c .include3 .ensures, c .before .before .include2 .ensures, c .before .before .before .before .include .ensures, c .before .before .before .before .before .before .empty .ensures, c .before .before .before .before .before .vertex .ensures, c .before .before .before .vertex2 .ensures, c .before .vertex3 .ensures)
 
 pub triangle-box-spec : {M : Type 1} → statement M
 triangle-box-spec =

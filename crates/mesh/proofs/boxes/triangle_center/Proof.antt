@@ -12,7 +12,7 @@ center-requires c κs = search needs
 
 returns : tie.Need-returns
 unfolding triangleCenter
-returns c = cc
+returns c = rw (c .center .ensures, c .before .triangle-box .ensures)
 
 pub triangle-center-spec : {M : Type 1} → statement M
 triangle-center-spec = tie.close (tie.spec triangle-box-requires center-requires returns)

@@ -12,7 +12,7 @@ at-requires c κs = search needs
 
 returns : tie.Need-returns
 unfolding vertex
-returns c = cc
+returns c = rw (c .at .ensures)
 
 pub vertex-spec : {M : Type 1} → statement M
 vertex-spec = tie.close (tie.spec mul-at at-requires returns)
