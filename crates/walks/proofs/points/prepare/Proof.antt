@@ -18,7 +18,7 @@ near-planes-requires c κs = search needs
 
 returns : tie.Need-returns
 unfolding prepared
-returns c = cc
+returns c = rw (c .near-planes .ensures, c .before .inverses .ensures, c .before .before .prepare .ensures, c .before .before .before .sides .ensures)
 
 pub prepare-spec : {M : Type 1} → statement M
 prepare-spec = tie.close (tie.spec sides-requires prepare-requires inverses-requires near-planes-requires returns)

@@ -18,7 +18,7 @@ ray-triangle-requires c κs = search needs
 
 returns : tie.Need-returns
 unfolding crossing
-returns c = cc
+returns c = rw (c .ray-triangle .ensures, c .before .vertex3 .ensures, c .before .before .vertex2 .ensures, c .before .before .before .vertex .ensures)
 
 pub crossing-spec : {M : Type 1} → statement M
 crossing-spec = tie.close (tie.spec vertex-requires vertex-requires-2 vertex-requires-3 ray-triangle-requires returns)

@@ -15,7 +15,7 @@ near-place-requires-3 c κs = search needs
 
 returns : tie.Need-returns
 unfolding nearPlaces
-returns c = cc
+returns c = rw (c .near-place3 .ensures, c .before .near-place2 .ensures, c .before .before .near-place .ensures)
 
 pub near-places-spec : {M : Type 1} → statement M
 near-places-spec =

@@ -12,7 +12,7 @@ contains-requires c κs = search needs
 
 returns : tie.Need-returns
 unfolding surfacePasses
-returns c = cc
+returns c = rw (c .contains .ensures, c .before .expanded .ensures)
 
 pub surface-passes-spec : {M : Type 1} → statement M
 surface-passes-spec = tie.close (tie.spec expanded-requires contains-requires returns)

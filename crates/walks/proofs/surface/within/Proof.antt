@@ -24,7 +24,7 @@ norm-requires c κs = search needs
 
 returns : tie.Need-returns
 unfolding within
-returns c = cc
+returns c = rw (c .norm .ensures, c .before .sub .ensures, c .before .before .closest-on-triangle .ensures, c .before .before .before .vertex3 .ensures, c .before .before .before .before .vertex2 .ensures, c .before .before .before .before .before .vertex .ensures)
 
 pub within-spec : {M : Type 1} → statement M
 within-spec =
