@@ -24,7 +24,7 @@ higher-requires-3 c κs = search needs
 
 returns : tie.Need-returns
 unfolding withCenter
-returns c = cc
+returns c = rw (c .higher3 .ensures, c .before .higher2 .ensures, c .before .before .higher .ensures, c .before .before .before .lower3 .ensures, c .before .before .before .before .lower2 .ensures, c .before .before .before .before .before .lower .ensures)
 
 pub with-center-spec : {M : Type 1} → statement M
 with-center-spec =
