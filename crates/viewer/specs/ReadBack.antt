@@ -105,7 +105,7 @@ unfolding askParts
 below-parts m lengths =
     let vertices = length (m .coords) / 3 in
     let l = faces (m .corners) (m .ends) in
-    below-then (askFaces vertices 0 l) (askVertices 0 (Vectors.points (m .coords))) (below-faces vertices 0 l (omega (arith, length-faces (m .corners) (m .ends), lengths .faces))) (λ e. below-finite Refusals.NotFinite (λ n. refl) 0 (Vectors.points (m .coords)) (omega (arith, Vectors.length-pointsOf (m .coords), lengths .vertices)))
+    below-then (askFaces vertices 0 l) (askVertices 0 (Vectors.points (m .coords))) (below-faces vertices 0 l (omega (arith, length-faces (m .corners) (m .ends), lengths .faces))) (λ e. below-finite Refusals.NotFinite (λ n. refl) 0 (Vectors.points (m .coords)) (omega (arith, Vectors.length-points (m .coords), lengths .vertices)))
 
 below-mesh : (m : Mesh) → Below (askMesh (m .coords) (m .corners) (m .ends))
 unfolding askMesh
@@ -133,7 +133,7 @@ unfolding askList askPoints
 below-points list places =
     below-then (ask (listFits (length list) places) Refusals.PointList) (askPoints list) (below-ask (listFits (length list) places) Refusals.PointList (omega arith)) (λ e.
     let short = list-short list places (ask-passed (listFits (length list) places) Refusals.PointList e) in
-    below-finite Refusals.Point (λ n. refl) 0 (Vectors.points list) (omega (arith, Vectors.length-pointsOf list, short)))
+    below-finite Refusals.Point (λ n. refl) 0 (Vectors.points list) (omega (arith, Vectors.length-points list, short)))
 
 pub below-list : (m : Mesh) (t : Tree) (work : ℕ) (list : List Float) (places : ℕ) → Below (listVerdict m t work list places)
 unfolding listVerdict
@@ -146,7 +146,7 @@ below-triangles triangles coords corners ends =
     let room = Weld.room (length triangles / 9) coords corners ends in
     below-then (ask (Weld.wholeTriangles triangles) Refusals.Coordinates) (then (Weld.askCorners triangles) (ask room Refusals.Room)) (below-ask (Weld.wholeTriangles triangles) Refusals.Coordinates (omega arith)) (λ e.
     let whole = whole-passed triangles (ask-passed (Weld.wholeTriangles triangles) Refusals.Coordinates e) in
-    below-then (Weld.askCorners triangles) (ask room Refusals.Room) (below-finite Refusals.NotFinite (λ n. refl) 0 (Vectors.points triangles) (omega (arith, Vectors.length-pointsOf triangles, whole .0, whole .1))) (λ e. below-ask room Refusals.Room (omega arith)))
+    below-then (Weld.askCorners triangles) (ask room Refusals.Room) (below-finite Refusals.NotFinite (λ n. refl) 0 (Vectors.points triangles) (omega (arith, Vectors.length-points triangles, whole .0, whole .1))) (λ e. below-ask room Refusals.Room (omega arith)))
 
 pub below-weld : (triangles coords : List Float) (corners ends sizes : List ℕ) → Below (Welding.verdict triangles coords corners ends sizes)
 unfolding Welding.verdict
