@@ -1,8 +1,9 @@
 -- `build_node` meets its contract: a leaf is written, or the halves are, one after the other, and then the node. The number of items falls.
-use Prim.Native.Nat.{ℕ, _-_, _/_, _<_}
+use Prim.Native.Nat.{ℕ, _-_, _/_, _≤_, _<_}
+use native.Mathlib.Nat.{sub-zero}
 use native.Mathlib.Omega.{arith}
 use mathlib.Core.Path.{_≡_, refl, _∙_}
-use mathlib.Core.List.{[], _++_, append-nil}
+use mathlib.Core.List.{List, [], _++_, append-nil}
 use lib.ListN.{length, take, drop, length-drop, length-append, drop-of-length-le}
 use lib.Seq.{length-take-le, take-all, take-at, drop-at}
 use borrow.Author.Needs.{needs}
@@ -35,6 +36,13 @@ build-node-at t =
 abbrev build-node-below : ℕ → In 6 build-node-kinds.ps
 build-node-below t =
     and 6 build-node-kinds.ps (falls 6 build-node-kinds.ps _<_ μ-build-node t) build-node.Pre
+
+-- the halves of as many items as n
+half-fits : {n m : ℕ} → m ≡ n → n / 2 ≤ m
+half-fits e = omega arith
+
+rest-fits : {n : ℕ} (items : List ℕ) → length items ≡ n → length (drop (n / 2) items) ≤ n - n / 2
+rest-fits {n} items e = omega (arith, length-drop (n / 2) items)
 
 build-node-build-leaf-requires : (t : ℕ) → build-node-lts.Need-build-leaf-requires (
   build-leaf-reads.Asked,
@@ -264,8 +272,8 @@ build-node-build-node-requires t c κs =
     let many = c .before .before .before .before .before .before .before .before .before .if1 .left in
     let half = length (a .items .now) / 2 in
     let long = length-permuted items (a .items .now) (split .same) in
-    let whole : half - 0 ≡ half = omega arith in
-    (rw whole (omega (arith, c .before .before .before .before .before .before .before .before .before .before .before .before .before .before .before .before .pre .0, many, length-take-le half items (omega (arith, long)))), rw whole (left-room m (a .sides) axis (a .n) (a .i) (a .boxes .now) (a .nodes .now) (a .items .now) items room axis-is split many))
+    let whole = sub-zero half in
+    (rw whole (omega (arith, c .before .before .before .before .before .before .before .before .before .before .before .before .before .before .before .before .pre .0, many, length-take-le half items (half-fits long))), rw whole (left-room m (a .sides) axis (a .n) (a .i) (a .boxes .now) (a .nodes .now) (a .items .now) items room axis-is split many))
 
 build-node-mul-build-node : (t : ℕ) → build-node-lts.Need-mul-build-node (
   build-leaf-reads.Asked,
@@ -348,12 +356,12 @@ build-node-part-build-node-end-2 t c =
     let many = c .before .before .before .before .before .before .before .before .before .before .before .before .before .before .before .before .before .before .if1 .left in
     let half = length (a .items .now) / 2 in
     let long = length-permuted items (a .items .now) (split .same) in
-    let whole : half - 0 ≡ half = omega arith in
+    let whole = sub-zero half in
     let wrote = rw whole at (c .before .before .before .before .before .before .before .before .build-node .ensures) in
     let items₁ = c .before .before .before .before .before .before .before .before .build-node .last .1 .1 .1 .1 .1 .1 .0 in
-    let long-left : length items₁ ≡ half = rw (whole, length-take-le half items (omega (arith, long))) at (c .before .before .before .before .before .before .before .before .build-node .kept .1 .1 .1 .1 .1 .1 .0) in
+    let long-left : length items₁ ≡ half = rw (whole, length-take-le half items (half-fits long)) at (c .before .before .before .before .before .before .before .before .build-node .kept .1 .1 .1 .1 .1 .1 .0) in
     let behind : drop half (items₁ ++ drop half items) ≡ drop half items = drop-at items₁ (drop half items) half long-left in
-    let rest : take (length (a .items .now) - half) (drop half items) ≡ drop half items = take-all (length (a .items .now) - half) (drop half items) (omega (arith, length-drop half items, long)) in
+    let rest : take (length (a .items .now) - half) (drop half items) ≡ drop half items = take-all (length (a .items .now) - half) (drop half items) (rest-fits items long) in
     rw (whole, length-append items₁ (drop half items), length-drop half items) (omega (arith, long-left, long))
 
 build-node-add-build-node-2 : (t : ℕ) → build-node-lts.Need-add-build-node-2 (
@@ -401,12 +409,12 @@ build-node-build-node-requires-2 t c κs =
     let many = c .before .before .before .before .before .before .before .before .before .before .before .before .before .before .before .before .before .before .before .if1 .left in
     let half = length (a .items .now) / 2 in
     let long = length-permuted items (a .items .now) (split .same) in
-    let whole : half - 0 ≡ half = omega arith in
+    let whole = sub-zero half in
     let wrote = rw whole at (c .before .before .before .before .before .before .before .before .before .build-node .ensures) in
     let items₁ = c .before .before .before .before .before .before .before .before .before .build-node .last .1 .1 .1 .1 .1 .1 .0 in
-    let long-left : length items₁ ≡ half = rw (whole, length-take-le half items (omega (arith, long))) at (c .before .before .before .before .before .before .before .before .before .build-node .kept .1 .1 .1 .1 .1 .1 .0) in
+    let long-left : length items₁ ≡ half = rw (whole, length-take-le half items (half-fits long)) at (c .before .before .before .before .before .before .before .before .before .build-node .kept .1 .1 .1 .1 .1 .1 .0) in
     let behind : drop half (items₁ ++ drop half items) ≡ drop half items = drop-at items₁ (drop half items) half long-left in
-    let rest : take (length (a .items .now) - half) (drop half items) ≡ drop half items = take-all (length (a .items .now) - half) (drop half items) (omega (arith, length-drop half items, long)) in
+    let rest : take (length (a .items .now) - half) (drop half items) ≡ drop half items = take-all (length (a .items .now) - half) (drop half items) (rest-fits items long) in
     (rw (whole, behind, rest) (omega (arith, c .before .before .before .before .before .before .before .before .before .before .before .before .before .before .before .before .before .before .before .before .before .before .before .before .before .before .pre .0, many, length-drop half items, long)), rw (whole, behind, rest) (right-room m (a .sides) axis (a .n) (a .i) (a .boxes .now) (a .nodes .now) (a .items .now) items room axis-is split many _ _ (c .before .before .before .before .before .before .before .before .before .build-node .result .end) (c .before .before .before .before .before .before .before .before .before .build-node .kept .1 .1 .1 .1 .0) (c .before .before .before .before .before .before .before .before .before .build-node .kept .1 .1 .1 .1 .1 .0) (wrote .end)))
 
 build-node-inner-box-requires : (t : ℕ) → build-node-lts.Need-inner-box-requires (
@@ -436,16 +444,16 @@ build-node-inner-box-requires t c κs =
     let many = c .before .before .before .before .before .before .before .before .before .before .before .before .before .before .before .before .before .before .before .before .before .before .before .before .before .before .before .if1 .left in
     let half = length (a .items .now) / 2 in
     let long = length-permuted items (a .items .now) (split .same) in
-    let whole : half - 0 ≡ half = omega arith in
+    let whole = sub-zero half in
     let wrote = rw whole at (c .before .before .before .before .before .before .before .before .before .before .before .before .before .before .before .before .before .build-node .ensures) in
     let items₁ = c .before .before .before .before .before .before .before .before .before .before .before .before .before .before .before .before .before .build-node .last .1 .1 .1 .1 .1 .1 .0 in
-    let long-left : length items₁ ≡ half = rw (whole, length-take-le half items (omega (arith, long))) at (c .before .before .before .before .before .before .before .before .before .before .before .before .before .before .before .before .before .build-node .kept .1 .1 .1 .1 .1 .1 .0) in
+    let long-left : length items₁ ≡ half = rw (whole, length-take-le half items (half-fits long)) at (c .before .before .before .before .before .before .before .before .before .before .before .before .before .before .before .before .before .build-node .kept .1 .1 .1 .1 .1 .1 .0) in
     let behind : drop half (items₁ ++ drop half items) ≡ drop half items = drop-at items₁ (drop half items) half long-left in
-    let rest : take (length (a .items .now) - half) (drop half items) ≡ drop half items = take-all (length (a .items .now) - half) (drop half items) (omega (arith, length-drop half items, long)) in
+    let rest : take (length (a .items .now) - half) (drop half items) ≡ drop half items = take-all (length (a .items .now) - half) (drop half items) (rest-fits items long) in
     let writes = rw (whole, behind, rest) at (c .before .before .before .before .before .before .before .build-node2 .ensures) in
     let items₂ = c .before .before .before .before .before .before .before .build-node2 .last .1 .1 .1 .1 .1 .1 .0 in
     let front : take half (items₁ ++ drop half items) ≡ items₁ = take-at items₁ (drop half items) half long-left in
-    let none : drop (length (a .items .now) - half) (drop half items) ≡ [] = drop-of-length-le (drop half items) {i = length (a .items .now) - half} (omega (arith, length-drop half items, long)) in
+    let none : drop (length (a .items .now) - half) (drop half items) ≡ [] = drop-of-length-le (drop half items) {i = length (a .items .now) - half} (rest-fits items long) in
     rw (whole, behind, front, none, append-nil items₂) (written-items m (a .sides) axis (a .n) (a .i) (a .boxes .now) (a .nodes .now) (a .items .now) items room axis-is split many (c .before .before .before .before .before .before .before .before .before .before .before .before .before .before .before .before .before .build-node .last .1 .1 .1 .1 .0) (c .before .before .before .before .before .before .before .build-node2 .last .1 .1 .1 .1 .0) (c .before .before .before .before .before .before .before .before .before .before .before .before .before .before .before .before .before .build-node .last .1 .1 .1 .1 .1 .0) (c .before .before .before .before .before .before .before .build-node2 .last .1 .1 .1 .1 .1 .0) items₁ items₂ (c .before .before .before .before .before .before .before .before .before .before .before .before .before .before .before .before .before .build-node .result) (c .before .before .before .before .before .before .before .build-node2 .result) wrote writes, halves-places m (a .sides) axis (a .n) (a .i) (a .boxes .now) (a .nodes .now) (a .items .now) items room axis-is split many (c .before .before .before .before .before .before .before .before .before .before .before .before .before .before .before .before .before .build-node .last .1 .1 .1 .1 .0) (c .before .before .before .before .before .before .before .build-node2 .last .1 .1 .1 .1 .0) (c .before .before .before .before .before .before .before .before .before .before .before .before .before .before .before .before .before .build-node .last .1 .1 .1 .1 .1 .0) (c .before .before .before .before .before .before .before .build-node2 .last .1 .1 .1 .1 .1 .0) items₁ items₂ (c .before .before .before .before .before .before .before .before .before .before .before .before .before .before .before .before .before .build-node .result) (c .before .before .before .before .before .before .before .build-node2 .result) wrote writes .0, halves-places m (a .sides) axis (a .n) (a .i) (a .boxes .now) (a .nodes .now) (a .items .now) items room axis-is split many (c .before .before .before .before .before .before .before .before .before .before .before .before .before .before .before .before .before .build-node .last .1 .1 .1 .1 .0) (c .before .before .before .before .before .before .before .build-node2 .last .1 .1 .1 .1 .0) (c .before .before .before .before .before .before .before .before .before .before .before .before .before .before .before .before .before .build-node .last .1 .1 .1 .1 .1 .0) (c .before .before .before .before .before .before .before .build-node2 .last .1 .1 .1 .1 .1 .0) items₁ items₂ (c .before .before .before .before .before .before .before .before .before .before .before .before .before .before .before .before .before .build-node .result) (c .before .before .before .before .before .before .before .build-node2 .result) wrote writes .1, first-bounds m (a .sides) axis (a .n) (a .i) (a .boxes .now) (a .nodes .now) (a .items .now) items room axis-is split many (c .before .before .before .before .before .before .before .before .before .before .before .before .before .before .before .before .before .build-node .last .1 .1 .1 .1 .0) (c .before .before .before .before .before .before .before .build-node2 .last .1 .1 .1 .1 .0) (c .before .before .before .before .before .before .before .before .before .before .before .before .before .before .before .before .before .build-node .last .1 .1 .1 .1 .1 .0) (c .before .before .before .before .before .before .before .build-node2 .last .1 .1 .1 .1 .1 .0) items₁ items₂ (c .before .before .before .before .before .before .before .before .before .before .before .before .before .before .before .before .before .build-node .result) (c .before .before .before .before .before .before .before .build-node2 .result) wrote writes, second-bounds m (a .sides) axis (a .n) (a .i) (a .boxes .now) (a .nodes .now) (a .items .now) items room axis-is split many (c .before .before .before .before .before .before .before .before .before .before .before .before .before .before .before .before .before .build-node .last .1 .1 .1 .1 .0) (c .before .before .before .before .before .before .before .build-node2 .last .1 .1 .1 .1 .0) (c .before .before .before .before .before .before .before .before .before .before .before .before .before .before .before .before .before .build-node .last .1 .1 .1 .1 .1 .0) (c .before .before .before .before .before .before .before .build-node2 .last .1 .1 .1 .1 .1 .0) items₁ items₂ (c .before .before .before .before .before .before .before .before .before .before .before .before .before .before .before .before .before .build-node .result) (c .before .before .before .before .before .before .before .build-node2 .result) wrote writes)
 
 build-node-put-box-requires : (t : ℕ) → build-node-lts.Need-put-box-requires (
@@ -493,16 +501,16 @@ build-node-put-node-requires t c κs =
     let many = c .before .before .before .before .before .before .before .before .before .before .before .before .before .before .before .before .before .before .before .before .before .before .before .before .before .before .before .before .before .before .before .before .before .if1 .left in
     let half = length (a .items .now) / 2 in
     let long = length-permuted items (a .items .now) (split .same) in
-    let whole : half - 0 ≡ half = omega arith in
+    let whole = sub-zero half in
     let wrote = rw whole at (c .before .before .before .before .before .before .before .before .before .before .before .before .before .before .before .before .before .before .before .before .before .before .before .build-node .ensures) in
     let items₁ = c .before .before .before .before .before .before .before .before .before .before .before .before .before .before .before .before .before .before .before .before .before .before .before .build-node .last .1 .1 .1 .1 .1 .1 .0 in
-    let long-left : length items₁ ≡ half = rw (whole, length-take-le half items (omega (arith, long))) at (c .before .before .before .before .before .before .before .before .before .before .before .before .before .before .before .before .before .before .before .before .before .before .before .build-node .kept .1 .1 .1 .1 .1 .1 .0) in
+    let long-left : length items₁ ≡ half = rw (whole, length-take-le half items (half-fits long)) at (c .before .before .before .before .before .before .before .before .before .before .before .before .before .before .before .before .before .before .before .before .before .before .before .build-node .kept .1 .1 .1 .1 .1 .1 .0) in
     let behind : drop half (items₁ ++ drop half items) ≡ drop half items = drop-at items₁ (drop half items) half long-left in
-    let rest : take (length (a .items .now) - half) (drop half items) ≡ drop half items = take-all (length (a .items .now) - half) (drop half items) (omega (arith, length-drop half items, long)) in
+    let rest : take (length (a .items .now) - half) (drop half items) ≡ drop half items = take-all (length (a .items .now) - half) (drop half items) (rest-fits items long) in
     let writes = rw (whole, behind, rest) at (c .before .before .before .before .before .before .before .before .before .before .before .before .before .build-node2 .ensures) in
     let items₂ = c .before .before .before .before .before .before .before .before .before .before .before .before .before .build-node2 .last .1 .1 .1 .1 .1 .1 .0 in
     let front : take half (items₁ ++ drop half items) ≡ items₁ = take-at items₁ (drop half items) half long-left in
-    let none : drop (length (a .items .now) - half) (drop half items) ≡ [] = drop-of-length-le (drop half items) {i = length (a .items .now) - half} (omega (arith, length-drop half items, long)) in
+    let none : drop (length (a .items .now) - half) (drop half items) ≡ [] = drop-of-length-le (drop half items) {i = length (a .items .now) - half} (rest-fits items long) in
     (omega (arith, room-one room .1, c .before .before .before .before .before .before .before .before .before .before .before .before .before .build-node2 .kept .1 .1 .1 .1 .1 .0, c .before .before .before .before .before .before .before .before .before .before .before .before .before .before .before .before .before .before .before .before .before .before .before .build-node .kept .1 .1 .1 .1 .1 .0), small-node m (a .sides) axis (a .n) (a .i) (a .boxes .now) (a .nodes .now) (a .items .now) items room axis-is split many (c .before .before .before .before .before .before .before .before .before .before .before .before .before .before .before .before .before .before .before .before .before .before .before .build-node .last .1 .1 .1 .1 .0) (c .before .before .before .before .before .before .before .before .before .before .before .before .before .build-node2 .last .1 .1 .1 .1 .0) (c .before .before .before .before .before .before .before .before .before .before .before .before .before .before .before .before .before .before .before .before .before .before .before .build-node .last .1 .1 .1 .1 .1 .0) (c .before .before .before .before .before .before .before .before .before .before .before .before .before .build-node2 .last .1 .1 .1 .1 .1 .0) items₁ items₂ (c .before .before .before .before .before .before .before .before .before .before .before .before .before .before .before .before .before .before .before .before .before .before .before .build-node .result) (c .before .before .before .before .before .before .before .before .before .before .before .before .before .build-node2 .result) wrote writes, omega arith)
 
 build-node-same-length-4 : (t : ℕ) → build-node-lts.Need-same-length-4 (
@@ -568,16 +576,16 @@ build-node-same-length-6 t c =
     let many = c .before .before .before .before .before .before .before .before .before .before .before .before .before .before .before .before .before .before .before .before .before .before .before .before .before .before .before .before .before .before .before .before .before .before .before .before .if1 .left in
     let half = length (a .items .now) / 2 in
     let long = length-permuted items (a .items .now) (split .same) in
-    let whole : half - 0 ≡ half = omega arith in
+    let whole = sub-zero half in
     let wrote = rw whole at (c .before .before .before .before .before .before .before .before .before .before .before .before .before .before .before .before .before .before .before .before .before .before .before .before .before .before .build-node .ensures) in
     let items₁ = c .before .before .before .before .before .before .before .before .before .before .before .before .before .before .before .before .before .before .before .before .before .before .before .before .before .before .build-node .last .1 .1 .1 .1 .1 .1 .0 in
-    let long-left : length items₁ ≡ half = rw (whole, length-take-le half items (omega (arith, long))) at (c .before .before .before .before .before .before .before .before .before .before .before .before .before .before .before .before .before .before .before .before .before .before .before .before .before .before .build-node .kept .1 .1 .1 .1 .1 .1 .0) in
+    let long-left : length items₁ ≡ half = rw (whole, length-take-le half items (half-fits long)) at (c .before .before .before .before .before .before .before .before .before .before .before .before .before .before .before .before .before .before .before .before .before .before .before .before .before .before .build-node .kept .1 .1 .1 .1 .1 .1 .0) in
     let behind : drop half (items₁ ++ drop half items) ≡ drop half items = drop-at items₁ (drop half items) half long-left in
-    let rest : take (length (a .items .now) - half) (drop half items) ≡ drop half items = take-all (length (a .items .now) - half) (drop half items) (omega (arith, length-drop half items, long)) in
+    let rest : take (length (a .items .now) - half) (drop half items) ≡ drop half items = take-all (length (a .items .now) - half) (drop half items) (rest-fits items long) in
     let writes = rw (whole, behind, rest) at (c .before .before .before .before .before .before .before .before .before .before .before .before .before .before .before .before .build-node2 .ensures) in
     let items₂ = c .before .before .before .before .before .before .before .before .before .before .before .before .before .before .before .before .build-node2 .last .1 .1 .1 .1 .1 .1 .0 in
     let front : take half (items₁ ++ drop half items) ≡ items₁ = take-at items₁ (drop half items) half long-left in
-    let none : drop (length (a .items .now) - half) (drop half items) ≡ [] = drop-of-length-le (drop half items) {i = length (a .items .now) - half} (omega (arith, length-drop half items, long)) in
+    let none : drop (length (a .items .now) - half) (drop half items) ≡ [] = drop-of-length-le (drop half items) {i = length (a .items .now) - half} (rest-fits items long) in
     rw (whole, behind, front, none, append-nil items₂) (length-permuted (items₁ ++ items₂) (a .items .now) (written-same m (a .sides) axis (a .n) (a .i) (a .boxes .now) (a .nodes .now) (a .items .now) items room axis-is split many (c .before .before .before .before .before .before .before .before .before .before .before .before .before .before .before .before .before .before .before .before .before .before .before .before .before .before .build-node .last .1 .1 .1 .1 .0) (c .before .before .before .before .before .before .before .before .before .before .before .before .before .before .before .before .build-node2 .last .1 .1 .1 .1 .0) (c .before .before .before .before .before .before .before .before .before .before .before .before .before .before .before .before .before .before .before .before .before .before .before .before .before .before .build-node .last .1 .1 .1 .1 .1 .0) (c .before .before .before .before .before .before .before .before .before .before .before .before .before .before .before .before .build-node2 .last .1 .1 .1 .1 .1 .0) items₁ items₂ (c .before .before .before .before .before .before .before .before .before .before .before .before .before .before .before .before .before .before .before .before .before .before .before .before .before .before .build-node .result) (c .before .before .before .before .before .before .before .before .before .before .before .before .before .before .before .before .build-node2 .result) wrote writes))
 
 build-node-returns-2 : (t : ℕ) → build-node-lts.Need-returns-2 (
@@ -607,16 +615,16 @@ build-node-returns-2 t c =
     let many = c .before .before .before .before .before .before .before .before .before .before .before .before .before .before .before .before .before .before .before .before .before .before .before .before .before .before .before .before .before .before .before .before .before .before .before .before .if1 .left in
     let half = length (a .items .now) / 2 in
     let long = length-permuted items (a .items .now) (split .same) in
-    let whole : half - 0 ≡ half = omega arith in
+    let whole = sub-zero half in
     let wrote = rw whole at (c .before .before .before .before .before .before .before .before .before .before .before .before .before .before .before .before .before .before .before .before .before .before .before .before .before .before .build-node .ensures) in
     let items₁ = c .before .before .before .before .before .before .before .before .before .before .before .before .before .before .before .before .before .before .before .before .before .before .before .before .before .before .build-node .last .1 .1 .1 .1 .1 .1 .0 in
-    let long-left : length items₁ ≡ half = rw (whole, length-take-le half items (omega (arith, long))) at (c .before .before .before .before .before .before .before .before .before .before .before .before .before .before .before .before .before .before .before .before .before .before .before .before .before .before .build-node .kept .1 .1 .1 .1 .1 .1 .0) in
+    let long-left : length items₁ ≡ half = rw (whole, length-take-le half items (half-fits long)) at (c .before .before .before .before .before .before .before .before .before .before .before .before .before .before .before .before .before .before .before .before .before .before .before .before .before .before .build-node .kept .1 .1 .1 .1 .1 .1 .0) in
     let behind : drop half (items₁ ++ drop half items) ≡ drop half items = drop-at items₁ (drop half items) half long-left in
-    let rest : take (length (a .items .now) - half) (drop half items) ≡ drop half items = take-all (length (a .items .now) - half) (drop half items) (omega (arith, length-drop half items, long)) in
+    let rest : take (length (a .items .now) - half) (drop half items) ≡ drop half items = take-all (length (a .items .now) - half) (drop half items) (rest-fits items long) in
     let writes = rw (whole, behind, rest) at (c .before .before .before .before .before .before .before .before .before .before .before .before .before .before .before .before .build-node2 .ensures) in
     let items₂ = c .before .before .before .before .before .before .before .before .before .before .before .before .before .before .before .before .build-node2 .last .1 .1 .1 .1 .1 .1 .0 in
     let front : take half (items₁ ++ drop half items) ≡ items₁ = take-at items₁ (drop half items) half long-left in
-    let none : drop (length (a .items .now) - half) (drop half items) ≡ [] = drop-of-length-le (drop half items) {i = length (a .items .now) - half} (omega (arith, length-drop half items, long)) in
+    let none : drop (length (a .items .now) - half) (drop half items) ≡ [] = drop-of-length-le (drop half items) {i = length (a .items .now) - half} (rest-fits items long) in
     let bounds = rw (whole, behind, front, none, append-nil items₂) at (c .before .before .before .before .before .before .before .before .inner-box .ensures) in
     rw (whole, behind, front, none, append-nil items₂, c .before .before .before .before .before .before .put-box .ensures, c .before .before .put-node .ensures) (inner-writes m (a .sides) axis (a .n) (a .i) (a .boxes .now) (a .nodes .now) (a .items .now) items room axis-is split many (c .before .before .before .before .before .before .before .before .before .before .before .before .before .before .before .before .before .before .before .before .before .before .before .before .before .before .build-node .last .1 .1 .1 .1 .0) (c .before .before .before .before .before .before .before .before .before .before .before .before .before .before .before .before .build-node2 .last .1 .1 .1 .1 .0) (c .before .before .before .before .before .before .before .before .before .before .before .before .before .before .before .before .before .before .before .before .before .before .before .before .before .before .build-node .last .1 .1 .1 .1 .1 .0) (c .before .before .before .before .before .before .before .before .before .before .before .before .before .before .before .before .build-node2 .last .1 .1 .1 .1 .1 .0) items₁ items₂ (c .before .before .before .before .before .before .before .before .before .before .before .before .before .before .before .before .before .before .before .before .before .before .before .before .before .before .build-node .result) (c .before .before .before .before .before .before .before .before .before .before .before .before .before .before .before .before .build-node2 .result) wrote writes _ bounds refl)
 
