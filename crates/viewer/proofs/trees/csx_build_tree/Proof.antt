@@ -1,9 +1,30 @@
--- `csx_build_tree` meets its contract: `build` promises its answer and the buffers, and the number that stands for the answer is returned.
-use mathlib.Core.Path.{sym, _∙_}
+-- `csx_build_tree` meets its contract: `build` promises its answer and the buffers, and the number that stands for the answer is returned (`refused`, `built`).
+use Prim.Native.Nat.{ℕ}
+use mathlib.Core.Path.{_≡_, sym, _∙_}
+use mathlib.Core.List.{List}
+use lib.Ieee.{Float}
 use borrow.Author.Needs.{needs}
+use Rattle.refusal.specs.declared.Refusal.{Refusal}
+use Rattle.refusal.specs.Numbers.{code}
+use Rattle.mesh.specs.Mesh.{Mesh}
+use Rattle.bvh.specs.declared.build.Built.{Built}
+use Rattle.bvh.specs.declared.build.Built.the-variants.{Refused, Nodes}
+use Rattle.bvh.specs.Build as Build
 use Rattle.bvh.specs.BuildLaws.{answer-refused, answer-nodes}
+use Rattle.viewer.specs.Trees.{Builds}
 use Rattle.viewer.proofs.trees.csx_build_tree.Statement.{statement}
 use Rattle.viewer.proofs.trees.csx_build_tree.Tie as tie
+
+module _ (m : Mesh) (boxes₀ : List Float) (nodes₀ items₀ : List ℕ) (answer : Built) (boxes : List Float) (nodes items : List ℕ) (w : Build.Builds m boxes₀ nodes₀ items₀ answer boxes nodes items) where
+  refused : (refusal : Refusal) (result : ℕ) → answer ≡ Refused refusal → result ≡ code refusal → Builds m boxes₀ nodes₀ items₀ result boxes nodes items
+  refused refusal result same e =
+      let said = answer-refused (Build.verdict m boxes₀ nodes₀ items₀) m refusal (sym same ∙ w .answer) in
+      record { answer = rw said e; boxes = w .boxes; nodes = w .nodes; items = w .items }
+
+  built : (count : ℕ) → answer ≡ Nodes count → Builds m boxes₀ nodes₀ items₀ count boxes nodes items
+  built count same =
+      let said = answer-nodes (Build.verdict m boxes₀ nodes₀ items₀) m count (sym same ∙ w .answer) in
+      record { answer = rw (said .0) (said .1); boxes = w .boxes; nodes = w .nodes; items = w .items }
 
 build-requires : tie.Need-build-requires
 build-requires c κs = search needs
@@ -27,11 +48,7 @@ same-length-3 : tie.Need-same-length-3
 same-length-3 c = search needs
 
 returns : tie.Need-returns
-returns c =
-    let built = c .before .before .before .before .before .before .before .before .before .before .build .ensures in
-    let answer = sym (c .before .before .built .given .1) ∙ built .answer in
-    let said = answer-refused _ _ _ answer in
-    record { answer = rw said (c .code .ensures); boxes = built .boxes; nodes = built .nodes; items = built .items }
+returns c = refused _ _ _ _ _ _ _ _ (c .before .before .before .before .before .before .before .before .before .before .build .ensures) _ _ (c .before .before .built .given .1) (c .code .ensures)
 
 same-length-4 : tie.Need-same-length-4
 same-length-4 c = search needs
@@ -43,11 +60,7 @@ same-length-6 : tie.Need-same-length-6
 same-length-6 c = search needs
 
 returns-2 : tie.Need-returns-2
-returns-2 c =
-    let built = c .before .before .before .before .before .before .before .before .before .build .ensures in
-    let answer = sym (c .before .built2 .given .1) ∙ built .answer in
-    let said = answer-nodes _ _ _ answer in
-    record { answer = rw (said .0) (said .1); boxes = built .boxes; nodes = built .nodes; items = built .items }
+returns-2 c = built _ _ _ _ _ _ _ _ (c .before .before .before .before .before .before .before .before .before .build .ensures) _ (c .before .built2 .given .1)
 
 pub csx-build-tree-spec : {M : Type 1} → statement M
 csx-build-tree-spec =
