@@ -1,7 +1,7 @@
 # run: the main job. test: the gate. picture: a section through a part. compare: the large comparison.
-# replay: csx's answers without Rust. load: a million calls with random bytes. bench: ratios of speed.
+# replay: csx's answers without Rust. sample: makes their file again. load: a million calls with random bytes. bench: ratios of speed.
 # install: the program point-list.
-.PHONY: run test picture compare compare-published compare-port replay load bench install archives
+.PHONY: run test picture compare compare-published compare-port replay sample load bench install archives
 
 PREFIX ?= /usr/local
 VIEWER_FLAGS = -std=c++17 -O2 -Wall -Wextra -Wpedantic -Wconversion -Wshadow -Werror
@@ -41,6 +41,9 @@ target/replay: archives
 
 replay: target/replay
 	target/replay < examples/replay.stdin
+
+sample:
+	cd tests && cargo run --offline --locked --release --features port --bin sample > ../examples/replay.stdin
 
 load: archives
 	cd tests && cargo build --offline --locked --release --features port --bin load
