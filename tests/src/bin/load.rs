@@ -4,20 +4,9 @@
 use std::env;
 use std::process::ExitCode;
 
-use zirwennach_tests::engine;
-use zirwennach_tests::kinds::load::{Engine, run};
+use zirwennach_tests::kinds::load::{ENGINE, run};
 use zirwennach_tests::plan::{DEFAULT_SEED, Plan};
 use zirwennach_tests::report::Report;
-
-const ENGINE: Engine = Engine {
-    root: engine::root,
-    answer: engine::answer,
-    weld: engine::meshes::from_triangles,
-    build: engine::trees::build,
-    check: engine::trees::check,
-    contains: engine::lists::contains,
-    point_list: engine::columns::point_list,
-};
 
 fn main() -> ExitCode {
     let arguments: Vec<String> = env::args().skip(1).collect();

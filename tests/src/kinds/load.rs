@@ -16,7 +16,7 @@ use super::meshes::welding::Weld;
 use super::meshes::{Line, Outcome};
 use super::trees::building::Build;
 use super::trees::checking::Check;
-use crate::engine::{REFUSAL, without_null};
+use crate::engine::{self, REFUSAL, without_null};
 use crate::plan::Plan;
 use crate::random::Random;
 use crate::report::Report;
@@ -32,6 +32,17 @@ pub struct Engine {
     pub contains: Contains,
     pub point_list: PointList,
 }
+
+/// The engine's own.
+pub const ENGINE: Engine = Engine {
+    root: engine::root,
+    answer: engine::answer,
+    weld: engine::meshes::from_triangles,
+    build: engine::trees::build,
+    check: engine::trees::check,
+    contains: engine::lists::contains,
+    point_list: engine::columns::point_list,
+};
 
 /// A C function of the header.
 struct Function {

@@ -1,21 +1,10 @@
 //! Engines with one fault each, which calls under load have to find.
 
-use super::{Engine, FUNCTIONS, LONG, run};
+use super::{ENGINE, Engine, FUNCTIONS, LONG, run};
 use crate::engine::{self, REFUSAL};
 use crate::kinds::meshes::ROOM;
 use crate::kinds::tests;
 use crate::plan::Plan;
-
-/// An engine that is right.
-const RIGHT: Engine = Engine {
-    root: engine::root,
-    answer: engine::answer,
-    weld: engine::meshes::from_triangles,
-    build: engine::trees::build,
-    check: engine::trees::check,
-    contains: engine::lists::contains,
-    point_list: engine::columns::point_list,
-};
 
 /// Whether so many calls find a fault.
 fn fails(calls: u64, engine: &Engine) -> bool {
@@ -24,14 +13,14 @@ fn fails(calls: u64, engine: &Engine) -> bool {
 
 /// Whether an engine with this change is found.
 fn caught(change: fn(&mut Engine)) -> bool {
-    let mut engine = RIGHT;
+    let mut engine = ENGINE;
     change(&mut engine);
     fails(10_000, &engine)
 }
 
 #[test]
 fn a_right_engine_passes_and_gives_every_refusal() {
-    assert!(!fails(LONG, &RIGHT));
+    assert!(!fails(LONG, &ENGINE));
 }
 
 #[test]
@@ -67,22 +56,22 @@ fn wrong_places_are_caught() {
         answer + u64::from(answer >= REFUSAL)
     }
     assert!(caught(|engine| {
-        engine.answer = |shape, list, point| off((RIGHT.answer)(shape, list, point));
+        engine.answer = |shape, list, point| off((ENGINE.answer)(shape, list, point));
     }));
     assert!(caught(
-        |engine| engine.weld = |list, welded| off((RIGHT.weld)(list, welded))
+        |engine| engine.weld = |list, welded| off((ENGINE.weld)(list, welded))
     ));
     assert!(caught(
-        |engine| engine.build = |mesh, tree| off((RIGHT.build)(mesh, tree))
+        |engine| engine.build = |mesh, tree| off((ENGINE.build)(mesh, tree))
     ));
     assert!(caught(|engine| {
-        engine.check = |mesh, tree, work| off((RIGHT.check)(mesh, tree, work));
+        engine.check = |mesh, tree, work| off((ENGINE.check)(mesh, tree, work));
     }));
     assert!(caught(|engine| {
-        engine.contains = |mesh, tree, work, list| off((RIGHT.contains)(mesh, tree, work, list));
+        engine.contains = |mesh, tree, work, list| off((ENGINE.contains)(mesh, tree, work, list));
     }));
     assert!(caught(|engine| {
-        engine.point_list = |text, listing| off((RIGHT.point_list)(text, listing));
+        engine.point_list = |text, listing| off((ENGINE.point_list)(text, listing));
     }));
 }
 
@@ -97,42 +86,42 @@ fn touch<T: Default>(list: &mut [T]) {
 fn writes_to_lists_that_are_only_read_are_caught() {
     assert!(caught(|engine| {
         engine.answer = |shape, list, point| {
-            let answer = (RIGHT.answer)(shape, list, point);
+            let answer = (ENGINE.answer)(shape, list, point);
             touch(list);
             answer
         };
     }));
     assert!(caught(|engine| {
         engine.weld = |list, welded| {
-            let answer = (RIGHT.weld)(list, welded);
+            let answer = (ENGINE.weld)(list, welded);
             touch(list);
             answer
         };
     }));
     assert!(caught(|engine| {
         engine.build = |mesh, tree| {
-            let answer = (RIGHT.build)(mesh, tree);
+            let answer = (ENGINE.build)(mesh, tree);
             touch(mesh.corners);
             answer
         };
     }));
     assert!(caught(|engine| {
         engine.check = |mesh, tree, work| {
-            let answer = (RIGHT.check)(mesh, tree, work);
+            let answer = (ENGINE.check)(mesh, tree, work);
             touch(tree.boxes);
             answer
         };
     }));
     assert!(caught(|engine| {
         engine.contains = |mesh, tree, work, list| {
-            let answer = (RIGHT.contains)(mesh, tree, work, list);
+            let answer = (ENGINE.contains)(mesh, tree, work, list);
             touch(list.points);
             answer
         };
     }));
     assert!(caught(|engine| {
         engine.point_list = |text, listing| {
-            let answer = (RIGHT.point_list)(text, listing);
+            let answer = (ENGINE.point_list)(text, listing);
             touch(text);
             answer
         };
@@ -143,28 +132,28 @@ fn writes_to_lists_that_are_only_read_are_caught() {
 fn writes_past_the_written_part_are_caught() {
     assert!(caught(|engine| {
         engine.weld = |list, welded| {
-            let answer = (RIGHT.weld)(list, welded);
+            let answer = (ENGINE.weld)(list, welded);
             touch(welded.mesh.ends);
             answer
         };
     }));
     assert!(caught(|engine| {
         engine.build = |mesh, tree| {
-            let answer = (RIGHT.build)(mesh, tree);
+            let answer = (ENGINE.build)(mesh, tree);
             touch(tree.nodes);
             answer
         };
     }));
     assert!(caught(|engine| {
         engine.check = |mesh, tree, work| {
-            let answer = (RIGHT.check)(mesh, tree, work);
+            let answer = (ENGINE.check)(mesh, tree, work);
             touch(work);
             answer
         };
     }));
     assert!(caught(|engine| {
         engine.contains = |mesh, tree, work, list| {
-            let answer = (RIGHT.contains)(mesh, tree, work, list);
+            let answer = (ENGINE.contains)(mesh, tree, work, list);
             if answer >= REFUSAL {
                 touch(list.answers);
             }
@@ -173,7 +162,7 @@ fn writes_past_the_written_part_are_caught() {
     }));
     assert!(caught(|engine| {
         engine.point_list = |text, listing| {
-            let answer = (RIGHT.point_list)(text, listing);
+            let answer = (ENGINE.point_list)(text, listing);
             if answer == ROOM {
                 touch(listing);
             }

@@ -177,22 +177,13 @@ fn with_word(record: &Record, place: usize, word: u64) -> Record {
 }
 
 fn returned(runner: &mut Runner) {
-    runner.changed("one more returned", |record, _| {
-        let place = record.expected;
-        Some(with_word(
-            record,
-            place,
-            record.words[place].wrapping_add(1),
-        ))
-    });
-    runner.changed("one less returned", |record, _| {
-        let place = record.expected;
-        Some(with_word(
-            record,
-            place,
-            record.words[place].wrapping_sub(1),
-        ))
-    });
+    for (what, step) in [("one more returned", 1), ("one less returned", u64::MAX)] {
+        runner.changed(what, |record, _| {
+            let place = record.expected;
+            let word = record.words[place].wrapping_add(step);
+            Some(with_word(record, place, word))
+        });
+    }
 }
 
 /// How often any element of the written lists is changed.
