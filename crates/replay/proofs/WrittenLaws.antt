@@ -26,35 +26,29 @@ none zero = refl
 none (suc i) = refl
 
 -- the place at i, and what lies behind it
-at-place : (other : ℕ) (words buffer : List ℕ) (i : ℕ) → i < length buffer → written other (drop i words) (drop i buffer) ≡ (eqb (getD buffer i 0) (getD words i other) && written other (drop (suc i) words) (drop (suc i) buffer))
+at-place : (other : ℕ) (words buffer : List ℕ) (i d : ℕ) → i < length buffer → written other (drop i words) (drop i buffer) ≡ (eqb (getD buffer i d) (getD words i other) && written other (drop (suc i) words) (drop (suc i) buffer))
 unfolding written
-at-place other words [] i h = absurd (omega arith)
-at-place other [] (b ∷ buffer) zero h = refl
-at-place other (w ∷ words) (b ∷ buffer) zero h = refl
-at-place other [] (b ∷ buffer) (suc i) h =
-    let later = rw (none i, none (suc i)) at (at-place other [] buffer i (omega arith)) in
+at-place other words [] i d h = absurd (omega arith)
+at-place other [] (b ∷ buffer) zero d h = refl
+at-place other (w ∷ words) (b ∷ buffer) zero d h = refl
+at-place other [] (b ∷ buffer) (suc i) d h =
+    let later = rw (none i, none (suc i)) at (at-place other [] buffer i d (omega arith)) in
     rw (none (suc i), none (suc (suc i))) later
-at-place other (w ∷ words) (b ∷ buffer) (suc i) h = at-place other words buffer i (omega arith)
+at-place other (w ∷ words) (b ∷ buffer) (suc i) d h = at-place other words buffer i d (omega arith)
 
-module _ (other : ℕ) (words buffer : List ℕ) (i w : ℕ) (l : i < length buffer) (e : w ≡ getD words i other) where
+module _ (other : ℕ) (words buffer : List ℕ) (i d w : ℕ) (l : i < length buffer) (e : w ≡ getD words i other) where
   -- the place at i has its word
-  pub goes-on : getD buffer i 0 ≡ w → written other (drop i words) (drop i buffer) ≡ written other (drop (i + 1) words) (drop (i + 1) buffer)
-  goes-on h = rw (add-one, at-place other words buffer i l, ← e, eq-eqb (getD buffer i 0) w h)
+  pub goes-on : getD buffer i d ≡ w → written other (drop i words) (drop i buffer) ≡ written other (drop (i + 1) words) (drop (i + 1) buffer)
+  goes-on h = rw (add-one, at-place other words buffer i d l, ← e, eq-eqb (getD buffer i d) w h)
 
   -- it has another
-  pub stops : (getD buffer i 0 ≡ w → ⊥) → false ≡ written other (drop i words) (drop i buffer)
-  stops h = rw (at-place other words buffer i l, ← e, ne-eqb (getD buffer i 0) w h)
+  pub stops : (getD buffer i d ≡ w → ⊥) → false ≡ written other (drop i words) (drop i buffer)
+  stops h = rw (at-place other words buffer i d l, ← e, ne-eqb (getD buffer i d) w h)
 
 -- all places are passed
 pub ends : (other : ℕ) (words buffer : List ℕ) (i : ℕ) → length words ≤ i → length buffer ≤ i → true ≡ written other (drop i words) (drop i buffer)
 unfolding written
 ends other words buffer i h k = rw (drop-of-length-le words h, drop-of-length-le buffer k)
-
--- the element at a place of a list, whatever stands for none
-pub within : (l : List ℕ) (i d e : ℕ) → i < length l → getD l i d ≡ getD l i e
-within [] i d e h = absurd (omega arith)
-within (x ∷ l) zero d e h = refl
-within (x ∷ l) (suc i) d e h = within l i d e (omega arith)
 
 -- past a list there is none
 pub past : (l : List ℕ) (i d : ℕ) → length l ≤ i → d ≡ getD l i d

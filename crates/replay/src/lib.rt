@@ -30,7 +30,7 @@ fn replayed(kind: u64, words: &[u64]) -> Outcome {
 }
 
 // Counts one record more. The count of those that could not be read stands at place 0, that of a kind's records that are
-// equal at the kind, and that of those that differ five places further.
+// equal at the kind, and that of those that differ five places further. (No other kind than 1 to 5 is equal or differs.)
 fn count(counts: &mut [u32], kind: u64, outcome: Outcome) {
     let place = match outcome {
         Outcome::Unreadable => 0,
@@ -121,7 +121,9 @@ fn all_equal(counts: &[u32]) -> bool
 }
 
 // Replays the records of standard input and prints the counts. Returns 0 if all are equal, else 1.
-pub fn replay_sample() -> u64 {
+pub fn replay_sample() -> u64
+    ensures { λ r. ⌜ r ≤ 1 ⌝ }
+{
     let mut text = io::large_buffer();
     let mut words = record::record_places();
     let mut counts = [0u32; 11];

@@ -1,4 +1,6 @@
 // What a record says of the engine.
+ghost use mathlib.Core.Path.{_≡_};
+ghost use Rattle.replay.specs.Outcomes as Outcomes;
 
 pub enum Outcome {
     Unreadable,
@@ -7,7 +9,9 @@ pub enum Outcome {
 }
 
 // Equal if what the engine did is what the record says.
-pub fn judged(equal: bool) -> Outcome {
+pub fn judged(equal: bool) -> Outcome
+    ensures { λ r. ⌜ r ≡ Outcomes.judged equal ⌝ }
+{
     if equal {
         return Outcome::Equal;
     }

@@ -76,6 +76,7 @@ fn read_part(text: &mut [u8], words: &mut [u64], n: usize) -> Part
 // Reads the next record: its words go to the front of `words`.
 pub fn read_record(text: &mut [u8], words: &mut [u64]) -> Next
     requires { ⌜ (length (now text) ≡ 65536) × (length (now words) ≡ 3800) ⌝ }
+    ensures { λ r. ⌜ Records.Fits r ⌝ }
 {
     match read_part(text, words, 2) {
         Part::Nothing => {
@@ -122,8 +123,8 @@ pub fn after(words: &[u64], at: usize) -> usize
     at + 1 + words[at] as usize
 }
 
-// How many numbers a list of floats and two of numbers behind it have, and where the last ends: past none if they do not
-// fit.
+// How many numbers were put of a list of floats and of two of numbers behind it, and where the last list ends. If the
+// lists do not fit the record or their buffers, that is the record's end.
 pub struct Three {
     pub floats: usize,
     pub first: usize,

@@ -1,7 +1,6 @@
 // Shape questions. A record: the form, the normal direction, eight numbers of the shape, the point, the list, and the
 // answer.
 ghost use mathlib.Core.Path.{_≡_};
-ghost use Prim.Native.Nat.{_≤_};
 ghost use lib.ListN.{length};
 use crate::buffers::float_places;
 use crate::buffers::put_floats;

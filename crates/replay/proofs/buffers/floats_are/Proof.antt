@@ -1,19 +1,14 @@
 -- `buffers::floats_are` meets its contract. The invariant: what is left to compare decides. The measure is the places left.
-use Prim.Native.Nat.{ℕ, _-_, _≤_, _<_}
+use Prim.Native.Nat.{_-_, _≤_}
 use mathlib.Core.Path.{_≡_, refl, sym, _∙_}
-use mathlib.Core.List.{List, map}
+use mathlib.Core.List.{map}
 use native.Mathlib.Omega.{arith}
-use lib.Ieee.{Float}
-use lib.ListN.{length, getD, drop, length-map, List·getD-map}
+use lib.ListN.{length, drop, length-map, List·getD-map}
 use borrow.Author.Needs.{needs}
 use Rattle.replay.specs.Written.{written, sevenBits, bitsOf}
-use Rattle.replay.proofs.WrittenLaws.{too-many, goes-on, stops, ends, within}
+use Rattle.replay.proofs.WrittenLaws.{too-many, goes-on, stops, ends}
 use Rattle.replay.proofs.buffers.floats_are.Statement.{statement}
 use Rattle.replay.proofs.buffers.floats_are.Tie as tie
-
--- the bits at a place
-value : (buffer : List Float) (i : ℕ) (d : Float) → i < length buffer → getD (map bitsOf buffer) i 0 ≡ bitsOf (getD buffer i d)
-value buffer i d h = within (map bitsOf buffer) i 0 (bitsOf d) (omega (arith, length-map buffer bitsOf)) ∙ List·getD-map bitsOf buffer i d
 
 abbrev Inv-loop : tie.InvT-loop
 Inv-loop buffer words i₀ i = (i ≤ length buffer) × (written sevenBits words (map bitsOf buffer) ≡ written sevenBits (drop i words) (drop i (map bitsOf buffer)))
@@ -43,8 +38,8 @@ returns-2 : tie.Need-returns-2 Inv-loop μ-loop
 returns-2 c =
     let words = c .before .before .before .before .before .before .before .before .before .args .words .now in
     let buffer = c .before .before .before .before .before .before .before .before .before .args .buffer .now in
-    let here = value buffer (c .before .before .before .before .before .loop .i) _ (omega arith) ∙ sym (c .before .before .bits-of .ensures) in
-    rw (c .before .before .before .before .before .loop .inv .1) (stops sevenBits words (map bitsOf buffer) (c .before .before .before .before .before .loop .i) _ (omega (arith, length-map buffer bitsOf)) (c .before .word-at .ensures) (λ e. c .if2 .taken (sym here ∙ e)))
+    let here = List·getD-map bitsOf buffer (c .before .before .before .before .before .loop .i) _ ∙ sym (c .before .before .bits-of .ensures) in
+    rw (c .before .before .before .before .before .loop .inv .1) (stops sevenBits words (map bitsOf buffer) (c .before .before .before .before .before .loop .i) _ _ (omega (arith, length-map buffer bitsOf)) (c .before .word-at .ensures) (λ e. c .if2 .taken (sym here ∙ e)))
 
 add-i : tie.Need-add-i Inv-loop μ-loop
 add-i c = omega arith
@@ -56,8 +51,8 @@ loop-again : tie.Need-loop-again Inv-loop μ-loop
 loop-again c =
     let words = c .before .before .before .before .before .before .before .before .before .args .words .now in
     let buffer = c .before .before .before .before .before .before .before .before .before .args .buffer .now in
-    let here = value buffer (c .before .before .before .before .before .loop .i) _ (omega arith) ∙ sym (c .before .before .bits-of .ensures) in
-    (omega arith, c .before .before .before .before .before .loop .inv .1 ∙ goes-on sevenBits words (map bitsOf buffer) (c .before .before .before .before .before .loop .i) _ (omega (arith, length-map buffer bitsOf)) (c .before .word-at .ensures) (here ∙ c .if2 .left))
+    let here = List·getD-map bitsOf buffer (c .before .before .before .before .before .loop .i) _ ∙ sym (c .before .before .bits-of .ensures) in
+    (omega arith, c .before .before .before .before .before .loop .inv .1 ∙ goes-on sevenBits words (map bitsOf buffer) (c .before .before .before .before .before .loop .i) _ _ (omega (arith, length-map buffer bitsOf)) (c .before .word-at .ensures) (here ∙ c .if2 .left))
 
 returns-3 : tie.Need-returns-3 Inv-loop μ-loop
 returns-3 c = rw (c .before .loop .inv .1) (ends sevenBits (c .before .before .before .before .before .args .words .now) (map bitsOf (c .before .before .before .before .before .args .buffer .now)) (c .before .loop .i) (omega arith) (omega (arith, length-map (c .before .before .before .before .before .args .buffer .now) bitsOf)))

@@ -1,7 +1,8 @@
 -- `buffers::word_at` meets its contract: a place past the words has none.
 use native.Mathlib.Omega.{arith}
 use borrow.Author.Needs.{needs}
-use Rattle.replay.proofs.WrittenLaws.{within, past}
+use lib.Seq.{drop-cons}
+use Rattle.replay.proofs.WrittenLaws.{past}
 use Rattle.replay.proofs.buffers.word_at.Statement.{statement}
 use Rattle.replay.proofs.buffers.word_at.Tie as tie
 
@@ -12,7 +13,10 @@ shared-slice-read-result : tie.Need-shared-slice-read-result
 shared-slice-read-result c = search needs
 
 returns : tie.Need-returns
-returns c = within (c .before .before .args .words .now) _ _ _ (omega arith)
+returns c =
+    let words = c .before .before .args .words .now in
+    let i = c .before .before .args .i in
+    cc (drop-cons words i 0 (omega arith), drop-cons words i (c .before .before .args .other) (omega arith))
 
 returns-2 : tie.Need-returns-2
 returns-2 c = past (c .before .args .words .now) _ _ (omega arith)

@@ -34,7 +34,7 @@ returns-2 : tie.Need-returns-2 Inv-loop μ-loop
 returns-2 c =
     let words = c .before .before .before .before .before .before .before .before .args .words .now in
     let buffer = c .before .before .before .before .before .before .before .before .args .buffer .now in
-    rw (c .before .before .before .before .loop .inv .1) (stops 7 words buffer (c .before .before .before .before .loop .i) _ (omega arith) (c .before .word-at .ensures) (c .if2 .taken))
+    rw (c .before .before .before .before .loop .inv .1) (stops 7 words buffer (c .before .before .before .before .loop .i) 0 _ (omega arith) (c .before .word-at .ensures) (c .if2 .taken))
 
 add-i : tie.Need-add-i Inv-loop μ-loop
 add-i c = omega arith
@@ -46,7 +46,7 @@ loop-again : tie.Need-loop-again Inv-loop μ-loop
 loop-again c =
     let words = c .before .before .before .before .before .before .before .before .args .words .now in
     let buffer = c .before .before .before .before .before .before .before .before .args .buffer .now in
-    (omega arith, c .before .before .before .before .loop .inv .1 ∙ goes-on 7 words buffer (c .before .before .before .before .loop .i) _ (omega arith) (c .before .word-at .ensures) (c .if2 .left))
+    (omega arith, c .before .before .before .before .loop .inv .1 ∙ goes-on 7 words buffer (c .before .before .before .before .loop .i) 0 _ (omega arith) (c .before .word-at .ensures) (c .if2 .left))
 
 returns-3 : tie.Need-returns-3 Inv-loop μ-loop
 returns-3 c = rw (c .before .loop .inv .1) (ends 7 (c .before .before .before .before .before .args .words .now) (c .before .before .before .before .before .args .buffer .now) (c .before .loop .i) (omega arith) (omega arith))
