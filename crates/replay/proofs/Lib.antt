@@ -1,1 +1,6 @@
-mod WrittenLaws
+mod BehindLaws
+mod CallLaws
+mod CompareLaws
+mod LentLaws
+mod ReplayLaws
+mod ShapeLaws

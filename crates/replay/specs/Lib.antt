@@ -1,4 +1,5 @@
--- The definitions of the program `replay`.
+-- The definitions of crate `replay`.
 pub mod Outcomes
-pub mod Records
-pub mod Written
+pub mod Shapes
+pub mod Calls
+pub mod Replays

@@ -1,11 +1,9 @@
 // Replays a fixed list of csx's answers, and prints how many of them the engine gives. csx is the Rust crate that the
 // engine is a port of. The list comes from standard input; tests/README.md says how it was made and is made again.
 // examples/replay.c calls it, by `probe_replay` of crate `probes` (docs/DECISIONS.md 64).
-mod buffers;
 mod lists;
 mod meshes;
 mod outcome;
-mod record;
 mod shapes;
 mod trees;
 mod welding;
@@ -13,14 +11,16 @@ mod welding;
 ghost use mathlib.Core.Path.{_≡_};
 ghost use Prim.Native.Nat.{_≤_};
 ghost use lib.ListN.{length};
-use crate::buffers::smaller;
+ghost use Rattle.replay.specs.Replays as Replays;
 use crate::outcome::Outcome;
-use crate::record::Next;
-use crate::record::read_record;
 use libc::STDOUT_FILENO;
+use records::record::Next;
+use records::record::read_record;
 
 // What a record of a kind says of the engine.
-fn replayed(kind: u64, words: &[u64]) -> Outcome {
+fn replayed(kind: u64, words: &[u64]) -> Outcome
+    ensures { λ r. ⌜ r ≡ Replays.replayed kind (now (words .entry)) ⌝ }
+{
     match kind {
         1 => shapes::replay(words),
         2 => welding::replay(words),
@@ -60,8 +60,7 @@ fn replay_next(text: &mut [u8], words: &mut [u64], counts: &mut [u32]) -> bool
             true
         }
         Next::Record { kind, length } => {
-            let n = smaller(length, words.len());
-            count(counts, kind, replayed(kind, &words[..n]));
+            count(counts, kind, replayed(kind, &words[..length]));
             true
         }
     }
@@ -125,7 +124,7 @@ pub fn replay_sample() -> u64
     ensures { λ r. ⌜ r ≤ 1 ⌝ }
 {
     let mut text = io::large_buffer();
-    let mut words = record::record_places();
+    let mut words = records::record::record_places();
     let mut counts = [0u32; 11];
     replay_all(&mut text, &mut words, &mut counts);
     report(&counts);

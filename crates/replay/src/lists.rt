@@ -1,17 +1,22 @@
 // Answering lists. Behind the mesh and the tree a record has the points, the lengths of the work places and of the
 // answers, the number returned, and what stands at the front of both.
+ghost use mathlib.Core.Path.{_≡_};
 ghost use Prim.Native.Nat.{_≤_};
 ghost use lib.ListN.{length};
-use crate::buffers::byte_places;
-use crate::buffers::bytes_are;
-use crate::buffers::float_places;
-use crate::buffers::put_floats;
-use crate::buffers::smaller;
-use crate::buffers::word_places;
-use crate::buffers::words_are;
+ghost use Rattle.mesh.specs.Mesh as Mesh;
+ghost use Rattle.tree.specs.Tree as Tree;
+ghost use Rattle.replay.specs.Calls as Calls;
+ghost use Rattle.replay.specs.Replays as Replays;
 use crate::outcome::Outcome;
 use crate::outcome::judged;
-use crate::record::after;
+use records::buffers::byte_places;
+use records::buffers::bytes_are;
+use records::buffers::float_places;
+use records::buffers::put_floats;
+use records::buffers::smaller;
+use records::buffers::word_places;
+use records::buffers::words_are;
+use records::record::after;
 use viewer::lists::csx_contains_list;
 
 // Lends as much of each buffer as the first two words say.
@@ -28,6 +33,7 @@ fn answer(
     answers: &mut [u8],
 ) -> u64
     requires { ⌜ 3 ≤ length (now words) ⌝ }
+    ensures { λ r. ⌜ Calls.Answers (Mesh.mesh (now (coords .entry)) (now (corners .entry)) (now (ends .entry))) (Tree.tree (now (boxes .entry)) (now (nodes .entry)) (now (items .entry))) (now (points .entry)) (now (words .entry)) (now (work .entry)) (now (answers .entry)) r (now (work .exit)) (now (answers .exit)) ⌝ }
 {
     let w = smaller(words[0] as usize, work.len());
     let a = smaller(words[1] as usize, answers.len());
@@ -45,7 +51,9 @@ fn answer(
 }
 
 // Compares the number returned with the third word, and both buffers with the lists behind it.
-fn answered(words: &[u64], returned: u64, work: &[u64], answers: &[u8]) -> Outcome {
+fn answered(words: &[u64], returned: u64, work: &[u64], answers: &[u8]) -> Outcome
+    ensures { λ r. ⌜ r ≡ Calls.answered (now (words .entry)) returned (now (work .entry)) (now (answers .entry)) ⌝ }
+{
     let answers_at = after(words, 3);
     let end = after(words, answers_at);
     if end != words.len() {
@@ -67,14 +75,16 @@ pub fn replay(
     boxes: &[f64],
     nodes: &[u32],
     items: &[u32],
-) -> Outcome {
+) -> Outcome
+    ensures { λ r. ⌜ r ≡ Replays.lists (Mesh.mesh (now (coords .entry)) (now (corners .entry)) (now (ends .entry))) (Tree.tree (now (boxes .entry)) (now (nodes .entry)) (now (items .entry))) (now (words .entry)) ⌝ }
+{
     let rooms = after(words, 0);
     if words.len() < rooms + 3 {
         return Outcome::Unreadable;
     }
     let mut points = float_places(0.0);
     let given = put_floats(&words[1..rooms], &mut points);
-    if given + 1 != rooms {
+    if given != rooms - 1 {
         return Outcome::Unreadable;
     }
     let rest = &words[rooms..];

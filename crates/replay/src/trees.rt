@@ -1,17 +1,22 @@
 // Building and checking trees. Behind the mesh, and for the check the tree, a record has the lengths of the lent
 // buffers, the number returned, and what stands at the front of each buffer.
+ghost use mathlib.Core.Path.{_≡_};
 ghost use Prim.Native.Nat.{_≤_};
 ghost use lib.ListN.{length};
-use crate::buffers::float_places;
-use crate::buffers::floats_are;
-use crate::buffers::number_places;
-use crate::buffers::numbers_are;
-use crate::buffers::smaller;
-use crate::buffers::word_places;
-use crate::buffers::words_are;
+ghost use Rattle.mesh.specs.Mesh as Mesh;
+ghost use Rattle.tree.specs.Tree as Tree;
+ghost use Rattle.replay.specs.Calls as Calls;
+ghost use Rattle.replay.specs.Replays as Replays;
 use crate::outcome::Outcome;
 use crate::outcome::judged;
-use crate::record::after;
+use records::buffers::float_places;
+use records::buffers::floats_are;
+use records::buffers::number_places;
+use records::buffers::numbers_are;
+use records::buffers::smaller;
+use records::buffers::word_places;
+use records::buffers::words_are;
+use records::record::after;
 use viewer::trees::csx_build_tree;
 use viewer::trees::csx_check_tree;
 
@@ -26,6 +31,7 @@ fn build(
     items: &mut [u32],
 ) -> u64
     requires { ⌜ 4 ≤ length (now words) ⌝ }
+    ensures { λ r. ⌜ Calls.Builds (Mesh.mesh (now (coords .entry)) (now (corners .entry)) (now (ends .entry))) (now (words .entry)) (now (boxes .entry)) (now (nodes .entry)) (now (items .entry)) r (now (boxes .exit)) (now (nodes .exit)) (now (items .exit)) ⌝ }
 {
     let a = smaller(words[0] as usize, boxes.len());
     let b = smaller(words[1] as usize, nodes.len());
@@ -41,7 +47,9 @@ fn build(
 }
 
 // Compares the number returned with the fourth word, and each buffer with the lists behind it.
-fn built(words: &[u64], returned: u64, boxes: &[f64], nodes: &[u32], items: &[u32]) -> Outcome {
+fn built(words: &[u64], returned: u64, boxes: &[f64], nodes: &[u32], items: &[u32]) -> Outcome
+    ensures { λ r. ⌜ r ≡ Calls.built (now (words .entry)) returned (now (boxes .entry)) (now (nodes .entry)) (now (items .entry)) ⌝ }
+{
     let nodes_at = after(words, 4);
     let items_at = after(words, nodes_at);
     let end = after(words, items_at);
@@ -57,7 +65,9 @@ fn built(words: &[u64], returned: u64, boxes: &[f64], nodes: &[u32], items: &[u3
 }
 
 // Builds the mesh's tree in buffers whose places hold 7.
-pub fn replay_build(words: &[u64], coords: &[f64], corners: &[u32], ends: &[u32]) -> Outcome {
+pub fn replay_build(words: &[u64], coords: &[f64], corners: &[u32], ends: &[u32]) -> Outcome
+    ensures { λ r. ⌜ r ≡ Replays.building (Mesh.mesh (now (coords .entry)) (now (corners .entry)) (now (ends .entry))) (now (words .entry)) ⌝ }
+{
     if words.len() < 4 {
         return Outcome::Unreadable;
     }
@@ -88,13 +98,16 @@ fn check(
     work: &mut [u64],
 ) -> u64
     requires { ⌜ 2 ≤ length (now words) ⌝ }
+    ensures { λ r. ⌜ Calls.Checks (Mesh.mesh (now (coords .entry)) (now (corners .entry)) (now (ends .entry))) (Tree.tree (now (boxes .entry)) (now (nodes .entry)) (now (items .entry))) (now (words .entry)) (now (work .entry)) r (now (work .exit)) ⌝ }
 {
     let n = smaller(words[0] as usize, work.len());
     csx_check_tree(coords, corners, ends, boxes, nodes, items, &mut work[..n])
 }
 
 // Compares the number returned with the second word, and the work places with the list behind it.
-fn checked(words: &[u64], returned: u64, work: &[u64]) -> Outcome {
+fn checked(words: &[u64], returned: u64, work: &[u64]) -> Outcome
+    ensures { λ r. ⌜ r ≡ Calls.checked (now (words .entry)) returned (now (work .entry)) ⌝ }
+{
     let end = after(words, 2);
     if end != words.len() {
         return Outcome::Unreadable;
@@ -111,7 +124,9 @@ pub fn replay_check(
     boxes: &[f64],
     nodes: &[u32],
     items: &[u32],
-) -> Outcome {
+) -> Outcome
+    ensures { λ r. ⌜ r ≡ Replays.checking (Mesh.mesh (now (coords .entry)) (now (corners .entry)) (now (ends .entry))) (Tree.tree (now (boxes .entry)) (now (nodes .entry)) (now (items .entry))) (now (words .entry)) ⌝ }
+{
     if words.len() < 2 {
         return Outcome::Unreadable;
     }

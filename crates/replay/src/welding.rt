@@ -1,18 +1,21 @@
 // Welding. A record: the triangles, the lengths of the four buffers, the number returned, and what stands at the front
 // of each buffer.
+ghost use mathlib.Core.Path.{_≡_};
 ghost use Prim.Native.Nat.{_≤_};
 ghost use lib.ListN.{length};
-use crate::buffers::float_places;
-use crate::buffers::floats_are;
-use crate::buffers::number_places;
-use crate::buffers::numbers_are;
-use crate::buffers::put_floats;
-use crate::buffers::smaller;
-use crate::buffers::word_places;
-use crate::buffers::words_are;
+ghost use Rattle.replay.specs.Calls as Calls;
+ghost use Rattle.replay.specs.Replays as Replays;
 use crate::outcome::Outcome;
 use crate::outcome::judged;
-use crate::record::after;
+use records::buffers::float_places;
+use records::buffers::floats_are;
+use records::buffers::number_places;
+use records::buffers::numbers_are;
+use records::buffers::put_floats;
+use records::buffers::smaller;
+use records::buffers::word_places;
+use records::buffers::words_are;
+use records::record::after;
 use viewer::meshes::csx_from_triangles;
 
 // Lends as much of each buffer as the first four words say.
@@ -25,6 +28,7 @@ fn weld(
     sizes: &mut [u64],
 ) -> u64
     requires { ⌜ 5 ≤ length (now words) ⌝ }
+    ensures { λ r. ⌜ Calls.Welds (now (triangles .entry)) (now (words .entry)) (now (coords .entry)) (now (corners .entry)) (now (ends .entry)) (now (sizes .entry)) r (now (coords .exit)) (now (corners .exit)) (now (ends .exit)) (now (sizes .exit)) ⌝ }
 {
     let a = smaller(words[0] as usize, coords.len());
     let b = smaller(words[1] as usize, corners.len());
@@ -47,7 +51,9 @@ fn compared(
     corners: &[u32],
     ends: &[u32],
     sizes: &[u64],
-) -> Outcome {
+) -> Outcome
+    ensures { λ r. ⌜ r ≡ Calls.welded (now (words .entry)) returned (now (coords .entry)) (now (corners .entry)) (now (ends .entry)) (now (sizes .entry)) ⌝ }
+{
     let corners_at = after(words, 5);
     let ends_at = after(words, corners_at);
     let sizes_at = after(words, ends_at);
@@ -65,7 +71,9 @@ fn compared(
 }
 
 // Reads the triangles, and welds them in buffers whose places hold 7.
-pub fn replay(words: &[u64]) -> Outcome {
+pub fn replay(words: &[u64]) -> Outcome
+    ensures { λ r. ⌜ r ≡ Replays.welding (now (words .entry)) ⌝ }
+{
     let rooms = after(words, 0);
     if words.len() < rooms + 5 {
         return Outcome::Unreadable;
@@ -76,7 +84,7 @@ pub fn replay(words: &[u64]) -> Outcome {
     let mut ends = number_places(7);
     let mut sizes = word_places();
     let given = put_floats(&words[1..rooms], &mut triangles);
-    if given + 1 != rooms {
+    if given != rooms - 1 {
         return Outcome::Unreadable;
     }
     let rest = &words[rooms..];

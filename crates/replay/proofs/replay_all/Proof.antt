@@ -1,5 +1,4 @@
 -- `replay_all` is safe and ends. The invariant: each list keeps its length. The measure is the records left.
-use Prim.Native.Nat.{_≤_}
 use mathlib.Core.Path.{_≡_, refl}
 use native.Mathlib.Omega.{arith}
 use lib.ListN.{length}

@@ -1,8 +1,8 @@
--- `replay_next` is safe and ends: the record is a front of the words.
-use mathlib.Core.Path.{sym}
-use native.Mathlib.Omega.{arith}
-use lib.Seq.{length-take-le}
+-- `replay_next` is safe and ends: a record that was read has a place for each of its words.
 use borrow.Author.Needs.{needs}
+use native.Mathlib.Omega.{arith}
+use mathlib.Core.Path.{sym}
+use lib.Seq.{length-take-le}
 use Rattle.replay.proofs.replay_next.Statement.{statement}
 use Rattle.replay.proofs.replay_next.Tie as tie
 
@@ -27,14 +27,13 @@ count-requires-2 c κs = search needs
 enum-known-kind : tie.Need-enum-known-kind
 enum-known-kind c = search needs
 
-smaller-requires : tie.Need-smaller-requires
-smaller-requires c κs = search needs
-
 slice-reshare-prefix-replayed : tie.Need-slice-reshare-prefix-replayed
-slice-reshare-prefix-replayed c = search needs
+slice-reshare-prefix-replayed c =
+    let fits = rw (c .before .before .kind .given .1) at (c .before .before .before .before .before .before .before .before .read-record .ensures) in
+    omega (arith, fits)
 
 slice-aggregate-replayed : tie.Need-slice-aggregate-replayed
-slice-aggregate-replayed c = sym (length-take-le (c .before .before .smaller .result) (c .before .before .before .before .before .before .before .before .before .before .read-record .last .1 .0) (omega arith))
+slice-aggregate-replayed c = sym (length-take-le _ _ (slice-reshare-prefix-replayed (c .before)))
 
 replayed-requires : tie.Need-replayed-requires
 replayed-requires c κs = search needs
@@ -98,7 +97,6 @@ replay-next-spec =
     enum-told-3
     count-requires-2
     enum-known-kind
-    smaller-requires
     slice-reshare-prefix-replayed
     slice-aggregate-replayed
     replayed-requires

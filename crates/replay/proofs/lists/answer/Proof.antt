@@ -1,8 +1,9 @@
--- `lists::answer` is safe and ends: what is lent is a front of each buffer.
+-- `lists::answer` meets its contract: what the C function promises of the fronts holds of the buffers.
 use mathlib.Core.Path.{sym}
 use native.Mathlib.Omega.{arith}
 use lib.Seq.{length-take-le}
 use borrow.Author.Needs.{needs}
+use Rattle.replay.proofs.CallLaws.{answered}
 use Rattle.replay.proofs.lists.answer.Statement.{statement}
 use Rattle.replay.proofs.lists.answer.Tie as tie
 
@@ -22,13 +23,13 @@ slice-relend-prefix-csx-contains-list : tie.Need-slice-relend-prefix-csx-contain
 slice-relend-prefix-csx-contains-list c = search needs
 
 slice-aggregate-csx-contains-list : tie.Need-slice-aggregate-csx-contains-list
-slice-aggregate-csx-contains-list c = sym (length-take-le (c .before .before .before .smaller .result) (c .before .before .before .before .before .before .before .before .before .before .before .before .before .before .before .args .work .now) (omega arith))
+slice-aggregate-csx-contains-list c = sym (length-take-le _ _ (omega arith))
 
 slice-relend-prefix-csx-contains-list-2 : tie.Need-slice-relend-prefix-csx-contains-list-2
 slice-relend-prefix-csx-contains-list-2 c = search needs
 
 slice-aggregate-csx-contains-list-2 : tie.Need-slice-aggregate-csx-contains-list-2
-slice-aggregate-csx-contains-list-2 c = sym (length-take-le (c .before .before .smaller2 .result) (c .before .before .before .before .before .before .before .before .before .before .before .before .before .before .before .before .args .answers .now) (omega arith))
+slice-aggregate-csx-contains-list-2 c = sym (length-take-le _ _ (omega arith))
 
 csx-contains-list-requires : tie.Need-csx-contains-list-requires
 csx-contains-list-requires c κs = search needs
@@ -40,7 +41,8 @@ same-length-2 : tie.Need-same-length-2
 same-length-2 c = search needs
 
 returns : tie.Need-returns
-returns c = search needs
+returns c =
+    answered _ _ _ _ _ _ _ _ _ _ _ (c .before .before .before .before .before .before .before .before .before .smaller .ensures, search needs) (c .before .before .before .before .before .before .before .smaller2 .ensures, search needs) (c .before .before .before .before .csx-contains-list .ensures)
 
 pub answer-spec : {M : Type 1} → statement M
 answer-spec =

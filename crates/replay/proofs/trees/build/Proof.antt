@@ -1,8 +1,9 @@
--- `trees::build` is safe and ends: what is lent is a front of each buffer.
+-- `trees::build` meets its contract: what the C function promises of the fronts holds of the buffers.
 use mathlib.Core.Path.{sym}
 use native.Mathlib.Omega.{arith}
 use lib.Seq.{length-take-le}
 use borrow.Author.Needs.{needs}
+use Rattle.replay.proofs.CallLaws.{builds}
 use Rattle.replay.proofs.trees.build.Statement.{statement}
 use Rattle.replay.proofs.trees.build.Tie as tie
 
@@ -28,19 +29,19 @@ slice-relend-prefix-csx-build-tree : tie.Need-slice-relend-prefix-csx-build-tree
 slice-relend-prefix-csx-build-tree c = search needs
 
 slice-aggregate-csx-build-tree : tie.Need-slice-aggregate-csx-build-tree
-slice-aggregate-csx-build-tree c = sym (length-take-le (c .before .before .before .before .before .smaller .result) (c .before .before .before .before .before .before .before .before .before .before .before .before .before .before .args .boxes .now) (omega arith))
+slice-aggregate-csx-build-tree c = sym (length-take-le _ _ (omega arith))
 
 slice-relend-prefix-csx-build-tree-2 : tie.Need-slice-relend-prefix-csx-build-tree-2
 slice-relend-prefix-csx-build-tree-2 c = search needs
 
 slice-aggregate-csx-build-tree-2 : tie.Need-slice-aggregate-csx-build-tree-2
-slice-aggregate-csx-build-tree-2 c = sym (length-take-le (c .before .before .before .before .smaller2 .result) (c .before .before .before .before .before .before .before .before .before .before .before .before .before .before .before .args .nodes .now) (omega arith))
+slice-aggregate-csx-build-tree-2 c = sym (length-take-le _ _ (omega arith))
 
 slice-relend-prefix-csx-build-tree-3 : tie.Need-slice-relend-prefix-csx-build-tree-3
 slice-relend-prefix-csx-build-tree-3 c = search needs
 
 slice-aggregate-csx-build-tree-3 : tie.Need-slice-aggregate-csx-build-tree-3
-slice-aggregate-csx-build-tree-3 c = sym (length-take-le (c .before .before .before .smaller3 .result) (c .before .before .before .before .before .before .before .before .before .before .before .before .before .before .before .before .args .items .now) (omega arith))
+slice-aggregate-csx-build-tree-3 c = sym (length-take-le _ _ (omega arith))
 
 csx-build-tree-requires : tie.Need-csx-build-tree-requires
 csx-build-tree-requires c κs = search needs
@@ -55,7 +56,8 @@ same-length-3 : tie.Need-same-length-3
 same-length-3 c = search needs
 
 returns : tie.Need-returns
-returns c = search needs
+returns c =
+    builds _ _ _ _ _ _ _ _ _ _ _ _ (c .before .before .before .before .before .before .before .before .before .before .before .before .before .before .smaller .ensures, search needs) (c .before .before .before .before .before .before .before .before .before .before .before .before .smaller2 .ensures, search needs) (c .before .before .before .before .before .before .before .before .before .before .smaller3 .ensures, search needs) (c .before .before .before .before .before .before .csx-build-tree .ensures)
 
 pub build-spec : {M : Type 1} → statement M
 build-spec =

@@ -1,8 +1,9 @@
--- `trees::check` is safe and ends: what is lent is a front of the work places.
+-- `trees::check` meets its contract: what the C function promises of the front holds of the work places.
 use mathlib.Core.Path.{sym}
 use native.Mathlib.Omega.{arith}
 use lib.Seq.{length-take-le}
 use borrow.Author.Needs.{needs}
+use Rattle.replay.proofs.CallLaws.{checks}
 use Rattle.replay.proofs.trees.check.Statement.{statement}
 use Rattle.replay.proofs.trees.check.Tie as tie
 
@@ -16,7 +17,7 @@ slice-relend-prefix-csx-check-tree : tie.Need-slice-relend-prefix-csx-check-tree
 slice-relend-prefix-csx-check-tree c = search needs
 
 slice-aggregate-csx-check-tree : tie.Need-slice-aggregate-csx-check-tree
-slice-aggregate-csx-check-tree c = sym (length-take-le (c .before .smaller .result) (c .before .before .before .before .before .before .before .before .before .before .before .args .work .now) (omega arith))
+slice-aggregate-csx-check-tree c = sym (length-take-le _ _ (omega arith))
 
 csx-check-tree-requires : tie.Need-csx-check-tree-requires
 csx-check-tree-requires c κs = search needs
@@ -25,7 +26,8 @@ same-length : tie.Need-same-length
 same-length c = search needs
 
 returns : tie.Need-returns
-returns c = search needs
+returns c =
+    checks _ _ _ _ _ _ _ (c .before .before .before .before .smaller .ensures, search needs) (c .before .before .csx-check-tree .ensures)
 
 pub check-spec : {M : Type 1} → statement M
 check-spec =

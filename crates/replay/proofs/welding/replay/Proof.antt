@@ -1,8 +1,10 @@
--- `welding::replay` is safe and ends: the triangles are a front of their buffer.
+-- `welding::replay` meets its contract: the record is too short, or not all triangles were put, or the call was made and compared.
 use mathlib.Core.Path.{sym}
-use native.Mathlib.Omega.{arith}
 use lib.Seq.{length-take-le}
 use borrow.Author.Needs.{needs}
+use native.Mathlib.Omega.{arith}
+use Rattle.records.specs.Reading.{put-fits}
+use Rattle.replay.proofs.ReplayLaws.{welding-short, welding-none, welding-call}
 use Rattle.replay.proofs.welding.replay.Statement.{statement}
 use Rattle.replay.proofs.welding.replay.Tie as tie
 
@@ -13,7 +15,7 @@ add-if1 : tie.Need-add-if1
 add-if1 c = search needs
 
 returns : tie.Need-returns
-returns c = search needs
+returns c = welding-short _ (c .before .after .ensures .0) (c .if1 .taken)
 
 float-places-requires : tie.Need-float-places-requires
 float-places-requires c κs = search needs
@@ -45,11 +47,11 @@ slice-aggregate-put-floats c = search needs
 put-floats-requires : tie.Need-put-floats-requires
 put-floats-requires c κs = search needs
 
-add-if2 : tie.Need-add-if2
-add-if2 c = search needs
+sub-if2 : tie.Need-sub-if2
+sub-if2 c = search needs
 
 returns-2 : tie.Need-returns-2
-returns-2 c = search needs
+returns-2 c = welding-none _ (c .before .before .before .before .before .before .before .before .before .before .before .after .ensures .0) (c .before .before .before .before .before .before .before .before .before .before .before .after .ensures .1 .0) (omega arith) (c .before .before .before .before .before .before .before .before .before .float-places .ensures .1) (c .before .before .put-floats .ensures) (c .before .before .before .before .before .before .before .before .before .before .if1 .left) (c .if2 .taken)
 
 mul-rest : tie.Need-mul-rest
 mul-rest c = search needs
@@ -64,10 +66,10 @@ part-rest-end : tie.Need-part-rest-end
 part-rest-end c = search needs
 
 array-share-prefix-triangles : tie.Need-array-share-prefix-triangles
-array-share-prefix-triangles c = search needs
+array-share-prefix-triangles c = put-fits (c .before .before .before .put-floats .ensures)
 
 slice-aggregate-weld : tie.Need-slice-aggregate-weld
-slice-aggregate-weld c = sym (length-take-le (c .before .before .before .before .put-floats .result) (c .before .before .before .before .put-floats .last .1 .0) (omega arith))
+slice-aggregate-weld c = sym (length-take-le _ _ (array-share-prefix-triangles (c .before)))
 
 slice-aggregate-weld-2 : tie.Need-slice-aggregate-weld-2
 slice-aggregate-weld-2 c = search needs
@@ -100,7 +102,8 @@ compared-requires : tie.Need-compared-requires
 compared-requires c κs = search needs
 
 returns-3 : tie.Need-returns-3
-returns-3 c = search needs
+returns-3 c =
+    welding-call _ (c .before .before .before .before .before .before .before .before .before .before .before .before .before .before .before .before .before .before .before .before .before .before .before .before .before .before .before .after .ensures .0) (c .before .before .before .before .before .before .before .before .before .before .before .before .before .before .before .before .before .before .before .before .before .before .before .before .before .before .before .after .ensures .1 .0) (omega arith) (c .before .before .before .before .before .before .before .before .before .before .before .before .before .before .before .before .before .before .before .before .before .before .before .before .before .float-places .ensures .1) (c .before .before .before .before .before .before .before .before .before .before .before .before .before .before .before .before .before .before .put-floats .ensures) (c .before .before .before .before .before .before .before .before .before .before .before .before .before .before .before .before .if2 .left) (c .before .before .before .before .before .before .before .before .before .before .before .before .before .before .before .before .before .before .before .before .before .before .before .before .before .before .if1 .left) (c .before .before .before .before .before .before .before .before .before .before .before .before .before .before .before .before .before .before .before .before .before .before .before .before .float-places2 .ensures .0) (c .before .before .before .before .before .before .before .before .before .before .before .before .before .before .before .before .before .before .before .before .before .before .before .number-places .ensures .0) (c .before .before .before .before .before .before .before .before .before .before .before .before .before .before .before .before .before .before .before .before .before .before .number-places2 .ensures .0) (c .before .before .before .before .before .before .before .before .before .before .before .before .before .before .before .before .before .before .before .before .before .word-places .ensures .0) (c .before .before .before .before .before .before .before .before .before .weld .ensures) (c .compared .ensures)
 
 pub replay-spec : {M : Type 1} → statement M
 replay-spec =
@@ -119,7 +122,7 @@ replay-spec =
     part-put-floats-end
     slice-aggregate-put-floats
     put-floats-requires
-    add-if2
+    sub-if2
     returns-2
     mul-rest
     sub-rest

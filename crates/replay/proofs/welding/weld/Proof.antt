@@ -1,8 +1,9 @@
--- `welding::weld` is safe and ends: what is lent is a front of each buffer.
+-- `welding::weld` meets its contract: what the C function promises of the fronts holds of the buffers.
 use mathlib.Core.Path.{sym}
 use native.Mathlib.Omega.{arith}
 use lib.Seq.{length-take-le}
 use borrow.Author.Needs.{needs}
+use Rattle.replay.proofs.CallLaws.{welds}
 use Rattle.replay.proofs.welding.weld.Statement.{statement}
 use Rattle.replay.proofs.welding.weld.Tie as tie
 
@@ -34,25 +35,25 @@ slice-relend-prefix-csx-from-triangles : tie.Need-slice-relend-prefix-csx-from-t
 slice-relend-prefix-csx-from-triangles c = search needs
 
 slice-aggregate-csx-from-triangles : tie.Need-slice-aggregate-csx-from-triangles
-slice-aggregate-csx-from-triangles c = sym (length-take-le (c .before .before .before .before .before .before .before .smaller .result) (c .before .before .before .before .before .before .before .before .before .before .before .before .before .before .before .args .coords .now) (omega arith))
+slice-aggregate-csx-from-triangles c = sym (length-take-le _ _ (omega arith))
 
 slice-relend-prefix-csx-from-triangles-2 : tie.Need-slice-relend-prefix-csx-from-triangles-2
 slice-relend-prefix-csx-from-triangles-2 c = search needs
 
 slice-aggregate-csx-from-triangles-2 : tie.Need-slice-aggregate-csx-from-triangles-2
-slice-aggregate-csx-from-triangles-2 c = sym (length-take-le (c .before .before .before .before .before .before .smaller2 .result) (c .before .before .before .before .before .before .before .before .before .before .before .before .before .before .before .before .args .corners .now) (omega arith))
+slice-aggregate-csx-from-triangles-2 c = sym (length-take-le _ _ (omega arith))
 
 slice-relend-prefix-csx-from-triangles-3 : tie.Need-slice-relend-prefix-csx-from-triangles-3
 slice-relend-prefix-csx-from-triangles-3 c = search needs
 
 slice-aggregate-csx-from-triangles-3 : tie.Need-slice-aggregate-csx-from-triangles-3
-slice-aggregate-csx-from-triangles-3 c = sym (length-take-le (c .before .before .before .before .before .smaller3 .result) (c .before .before .before .before .before .before .before .before .before .before .before .before .before .before .before .before .before .args .ends .now) (omega arith))
+slice-aggregate-csx-from-triangles-3 c = sym (length-take-le _ _ (omega arith))
 
 slice-relend-prefix-csx-from-triangles-4 : tie.Need-slice-relend-prefix-csx-from-triangles-4
 slice-relend-prefix-csx-from-triangles-4 c = search needs
 
 slice-aggregate-csx-from-triangles-4 : tie.Need-slice-aggregate-csx-from-triangles-4
-slice-aggregate-csx-from-triangles-4 c = sym (length-take-le (c .before .before .before .before .smaller4 .result) (c .before .before .before .before .before .before .before .before .before .before .before .before .before .before .before .before .before .before .args .sizes .now) (omega arith))
+slice-aggregate-csx-from-triangles-4 c = sym (length-take-le _ _ (omega arith))
 
 csx-from-triangles-requires : tie.Need-csx-from-triangles-requires
 csx-from-triangles-requires c κs = search needs
@@ -70,7 +71,8 @@ same-length-4 : tie.Need-same-length-4
 same-length-4 c = search needs
 
 returns : tie.Need-returns
-returns c = search needs
+returns c =
+    welds _ _ _ _ _ _ _ _ _ _ _ _ _ _ _ (c .before .before .before .before .before .before .before .before .before .before .before .before .before .before .before .before .before .before .before .smaller .ensures, search needs) (c .before .before .before .before .before .before .before .before .before .before .before .before .before .before .before .before .before .smaller2 .ensures, search needs) (c .before .before .before .before .before .before .before .before .before .before .before .before .before .before .before .smaller3 .ensures, search needs) (c .before .before .before .before .before .before .before .before .before .before .before .before .before .smaller4 .ensures, search needs) (c .before .before .before .before .before .before .before .before .csx-from-triangles .ensures)
 
 pub weld-spec : {M : Type 1} → statement M
 weld-spec =

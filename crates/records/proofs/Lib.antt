@@ -1,0 +1,3 @@
+mod PutLaws
+mod ThreeLaws
+mod WrittenLaws
