@@ -21,28 +21,28 @@ all true true false = refl
 all true false z = refl
 all false y z = refl
 
-module _ (words : List ℕ) (F : List Float) (M N : List ℕ) (a b end : ℕ) (e : a ≡ after words 0) (f : b ≡ after words a) (g : end ≡ after words b) where
+module _ (words : List ℕ) (xs : List Float) (ys zs : List ℕ) (a b end : ℕ) (e : a ≡ after words 0) (f : b ≡ after words a) (g : end ≡ after words b) where
   -- the lists do not lie in the record
-  pub three-cut : length words < end → Reads words F M N Threes.Unreadable F M N
+  pub three-cut : length words < end → Reads words xs ys zs Threes.Unreadable xs ys zs
   unfolding allThree
   three-cut h =
       let cut = lt-leb end (length words) h in
       record {
         answer = rw (← e, ← f, ← g, cut) refl;
-        one = rw (← e, ← f, ← g, cut) (sym (over-nothing F));
-        two = rw (← e, ← f, ← g, cut) (sym (over-nothing M));
-        last = rw (← e, ← f, ← g, cut) (sym (over-nothing N));
+        one = rw (← e, ← f, ← g, cut) (sym (over-nothing xs));
+        two = rw (← e, ← f, ← g, cut) (sym (over-nothing ys));
+        last = rw (← e, ← f, ← g, cut) (sym (over-nothing zs));
       }
 
-  module _ (h : end ≤ length words) (some : (0 < a) × ((a < b) × (b < end))) {p q s : ℕ} {F₁ : List Float} {M₁ N₁ : List ℕ}
-      (i : Puts (floats (length F) (part 1 a words)) F p F₁)
-      (j : Puts (numbers (length M) (part (a + 1) b words)) M q M₁)
-      (k : Puts (numbers (length N) (part (b + 1) end words)) N s N₁) where
+  module _ (h : end ≤ length words) (some : (0 < a) × ((a < b) × (b < end))) {p q s : ℕ} {xs₁ : List Float} {ys₁ zs₁ : List ℕ}
+      (i : Puts (floats (length xs) (part 1 a words)) xs p xs₁)
+      (j : Puts (numbers (length ys) (part (a + 1) b words)) ys q ys₁)
+      (k : Puts (numbers (length zs) (part (b + 1) end words)) zs s zs₁) where
     -- how the code tests that not all words were put
     abbrev notAll : Bool
     notAll = not (eqb p (a - 1)) || not (eqb q (b - (a + 1))) || not (eqb s (end - (b + 1)))
 
-    three-is : three words (length F) (length M) (length N) ≡ cond (not notAll) (Threes.Lists p q s end) Threes.Unreadable
+    three-is : three words (length xs) (length ys) (length zs) ≡ cond (not notAll) (Threes.Lists p q s end) Threes.Unreadable
     unfolding allThree allFloats allNumbers elements
     three-is =
         let x : length (part 1 a words) ≡ a - 1 = simp (length-take, length-drop) (omega arith) in
@@ -51,7 +51,7 @@ module _ (words : List ℕ) (F : List Float) (M N : List ℕ) (a b end : ℕ) (e
         rw (← all, ← e, ← f, ← g, le-leb end (length words) h, x, y, z, ← i .count, ← j .count, ← k .count)
 
     -- the lists were read
-    pub three-read : (r : Three) → r ≡ cond (not notAll) (Threes.Lists p q s end) Threes.Unreadable → Reads words F M N r F₁ M₁ N₁
+    pub three-read : (r : Three) → r ≡ cond (not notAll) (Threes.Lists p q s end) Threes.Unreadable → Reads words xs ys zs r xs₁ ys₁ zs₁
     unfolding elements
     three-read r t =
         let lies = le-leb end (length words) h in

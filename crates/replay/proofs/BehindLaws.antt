@@ -41,8 +41,8 @@ unfolding allThree
 allThree-lies words f m n h = first (leb (afterThree words) (length words)) _ (first _ _ (first _ _ h))
 
 -- what is made of three lists that were read into buffers of 1,024 places
-module _ {words : List ℕ} {F F₁ : List Float} {M N M₁ N₁ : List ℕ} {r : Three} (l : 1024 ≡ length F) (m : 1024 ≡ length M) (n : 1024 ≡ length N)
-    (reads : Reads words F M N r F₁ M₁ N₁) where
+module _ {words : List ℕ} {xs xs₁ : List Float} {ys zs ys₁ zs₁ : List ℕ} {r : Three} (l : 1024 ≡ length xs) (m : 1024 ≡ length ys) (n : 1024 ≡ length zs)
+    (reads : Reads words xs ys zs r xs₁ ys₁ zs₁) where
   abbrev x : List Float
   x = floats 1024 (elements words 0)
 
@@ -69,20 +69,20 @@ module _ {words : List ℕ} {F F₁ : List Float} {M N M₁ N₁ : List ℕ} {r 
     lies : leb (afterThree words) (length words) ≡ true
     lies = allThree-lies words 1024 1024 1024 (some .0)
 
-    puts-one : Puts x F p F₁
+    puts-one : Puts x xs p xs₁
     puts-one = record { count = some .1 .0; buffer = rw lies at (rw (← l) at (reads .one)) }
 
-    puts-two : Puts y M q M₁
+    puts-two : Puts y ys q ys₁
     puts-two = record { count = some .1 .1 .0; buffer = rw lies at (rw (← m) at (reads .two)) }
 
-    puts-last : Puts z N s N₁
+    puts-last : Puts z zs s zs₁
     puts-last = record { count = some .1 .1 .1 .0; buffer = rw lies at (rw (← n) at (reads .last)) }
 
     -- they end in the record and have places in the buffers
-    pub three-fits : (end ≤ length words) × ((p ≤ length F₁) × ((q ≤ length M₁) × (s ≤ length N₁)))
+    pub three-fits : (end ≤ length words) × ((p ≤ length xs₁) × ((q ≤ length ys₁) × (s ≤ length zs₁)))
     three-fits = (rw (some .1 .1 .1 .1) (leb-true (afterThree words) (length words) lies), (put-fits puts-one, (put-fits puts-two, put-fits puts-last)))
 
     -- they were
-    pub behind-some : (g : List Float → List ℕ → List ℕ → List ℕ → Outcome) (k : Outcome) → k ≡ g (take p F₁) (take q M₁) (take s N₁) (take (length words - end) (drop end words)) → k ≡ behindThree words g
+    pub behind-some : (g : List Float → List ℕ → List ℕ → List ℕ → Outcome) (k : Outcome) → k ≡ g (take p xs₁) (take q ys₁) (take s zs₁) (take (length words - end) (drop end words)) → k ≡ behindThree words g
     unfolding behindThree
     behind-some g k h = rw (some .0) (rw (put-front puts-one, put-front puts-two, put-front puts-last, behind end words, some .1 .1 .1 .1) at h)

@@ -40,7 +40,7 @@ pub record Builds (m : Mesh) (words : List ℕ) (boxes₀ : List Float) (nodes�
   pub nodes : nodes₁ ≡ over (Verdicts.written (buildVerdict m words boxes₀ nodes₀ items₀) (layout m .nodes)) nodes₀
   pub items : items₁ ≡ over (Verdicts.written (buildVerdict m words boxes₀ nodes₀ items₀) (layout m .items)) items₀
 
--- the fourth word is the number returned, and behind it stand what is at the front of the three buffers
+-- the fourth word is the number returned, and behind it stand the lists at the front of the three buffers
 unfoldable pub built : List ℕ → ℕ → List Float → List ℕ → List ℕ → Outcome
 built words result boxes nodes items =
     outcome (eqb (after words (after words (after words 4))) (length words))
@@ -56,7 +56,7 @@ pub record Checks (m : Mesh) (t : Tree) (words work₀ : List ℕ) (result : ℕ
   pub answer : result ≡ returned (checkAnswer m t (length (lent words 0 work₀))) 0
   pub work : work₁ ≡ over (Verdicts.written (askRoom m (length (lent words 0 work₀))) (replicate (length (m .corners)) 0)) work₀
 
--- the second word is the number returned, and behind it stands what is at the front of the work places
+-- the second word is the number returned, and behind it stands the list at the front of the work places
 unfoldable pub checked : List ℕ → ℕ → List ℕ → Outcome
 checked words result work =
     outcome (eqb (after words 2) (length words))
@@ -71,7 +71,7 @@ pub record Answers (m : Mesh) (t : Tree) (points : List Float) (words work₀ an
   pub work : work₁ ≡ over (listWork m t (length (lent words 0 work₀)) points (length (lent words 1 answers₀))) work₀
   pub answers : answers₁ ≡ over (listAnswer m t (length (lent words 0 work₀)) points (length (lent words 1 answers₀))) answers₀
 
--- the third word is the number returned, and behind it stand what is at the front of both buffers
+-- the third word is the number returned, and behind it stand the lists at the front of both buffers
 unfoldable pub answered : List ℕ → ℕ → List ℕ → List ℕ → Outcome
 answered words result work answers =
     outcome (eqb (after words (after words 3)) (length words))
@@ -94,7 +94,7 @@ pub record Welds (triangles : List Float) (words : List ℕ) (coords₀ : List F
   pub ends : ends₁ ≡ over (Verdicts.written (weldVerdict triangles words coords₀ corners₀ ends₀ sizes₀) (Welding.ends triangles)) ends₀
   pub sizes : sizes₁ ≡ over (Verdicts.written (weldVerdict triangles words coords₀ corners₀ ends₀ sizes₀) (Weld.sizesOf triangles)) sizes₀
 
--- the fifth word is the number returned, and behind it stand what is at the front of the four buffers
+-- the fifth word is the number returned, and behind it stand the lists at the front of the four buffers
 unfoldable pub welded : List ℕ → ℕ → List Float → List ℕ → List ℕ → List ℕ → Outcome
 welded words result coords corners ends sizes =
     outcome (eqb (after words (after words (after words (after words 5)))) (length words))

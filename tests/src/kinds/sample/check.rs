@@ -284,17 +284,28 @@ fn with_count(record: &Record, count: u64) -> String {
     format!("{}{count:016x}{}", &line[..17], &line[33..])
 }
 
+/// Gives all records, some of them spoiled: one in eight of those that may be.
+fn spoiled(runner: &mut Runner, what: &str, may: fn(&Record) -> bool, spoil: impl Fn(&Record, &mut Random) -> String) {
+    let mut given = Given::default();
+    for record in runner.records {
+        if may(record) && runner.random.below(8) == 0 {
+            given.unreadable(&spoil(record, runner.random));
+        } else {
+            given.equal(record);
+        }
+    }
+    runner.compare(&given, what);
+}
+
 fn unreadable(runner: &mut Runner) {
     for spoil in SPOILS {
-        let mut given = Given::default();
-        for record in runner.records {
-            if runner.random.below(8) == 0 {
-                given.unreadable(&spoil(record, runner.random));
-            } else {
-                given.equal(record);
-            }
-        }
-        runner.compare(&given, "records that cannot be read");
+        spoiled(runner, "records that cannot be read", |_| true, spoil);
+    }
+    for form in [0, 13, u64::MAX] {
+        let is_shape = |record: &Record| record.kind == RecordKind::Shape;
+        spoiled(runner, "a form that no shape has", is_shape, |record, _| {
+            with_word(record, 0, form).text()
+        });
     }
     for spoil in HEADS {
         for kind in RecordKind::ALL {

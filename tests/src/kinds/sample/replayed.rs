@@ -114,8 +114,8 @@ impl Reader<'_> {
 
     /// A buffer, each place of which holds this.
     fn buffer<T: Copy>(&mut self, filled: T) -> Option<Vec<T>> {
-        let room = self.word()?;
-        (room <= 1024).then(|| vec![filled; room as usize])
+        let room = self.word()?.min(1024);
+        Some(vec![filled; room as usize])
     }
 
     fn lists(&mut self) -> Option<Lists> {
