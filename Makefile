@@ -40,10 +40,10 @@ target/replay: archives
 	cc -std=c99 -Wall -Wextra -Werror examples/replay.c -Ltarget/staticlib -lprobes -lm -o $@
 
 replay: target/replay
-	target/replay < examples/replay.stdin
+	target/replay < crates/csx_answers/stdin
 
 sample:
-	cd tests && cargo run --offline --locked --release --features port --bin sample > ../examples/replay.stdin
+	cd tests && cargo run --offline --locked --release --features port --bin sample > ../crates/csx_answers/stdin
 
 load: archives
 	cd tests && cargo build --offline --locked --release --features port --bin load

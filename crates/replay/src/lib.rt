@@ -1,6 +1,6 @@
 // Replays a fixed list of csx's answers, and prints how many of them the engine gives. csx is the Rust crate that the
 // engine is a port of. The list comes from standard input; tests/README.md says how it was made and is made again.
-// examples/replay.c calls it, by `probe_replay` of crate `probes` (docs/DECISIONS.md 64).
+// The program `csx_answers` calls it, and from C examples/replay.c, by `probe_replay` of crate `probes`.
 mod lists;
 mod meshes;
 mod outcome;

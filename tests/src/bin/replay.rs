@@ -15,7 +15,7 @@ use zirwennach_tests::report::{Kind, Report};
 const PROGRAM: &str = "../target/replay";
 
 /// Where the sample is kept.
-const KEPT: &str = "../examples/replay.stdin";
+const KEPT: &str = "../crates/csx_answers/stdin";
 
 /// How long a run may take.
 const PATIENCE: Duration = Duration::from_secs(60);

@@ -1,4 +1,4 @@
-//! Prints the sample that the program `replay` is given. See README.md.
+//! Prints the sample that the program `csx_answers` is given. See README.md.
 
 use std::io::{self, Write};
 use std::process::ExitCode;
