@@ -21,19 +21,19 @@ use Rattle.bvh.specs.Builder.{centerOf}
 -- ---- the centres
 
 -- the lower of `lo` and a centre; one that is not finite does not count
-unfoldable pub lower : Float → Float → Float
-lower lo c = cond (Rules.isFinite c) (Rules.min lo c) lo
+unfoldable pub lowerCenter : Float → Float → Float
+lowerCenter lo c = cond (Rules.isFinite c) (Rules.min lo c) lo
 
 -- the higher of `hi` and a centre; one that is not finite does not count
-unfoldable pub higher : Float → Float → Float
-higher hi c = cond (Rules.isFinite c) (Rules.max hi c) hi
+unfoldable pub higherCenter : Float → Float → Float
+higherCenter hi c = cond (Rules.isFinite c) (Rules.max hi c) hi
 
 -- a box around centres, and one centre more
 unfoldable pub withCenter : BoundingBox → Vec3 → BoundingBox
 withCenter b c =
     box
-    (vec (lower (b .min .x) (c .x)) (lower (b .min .y) (c .y)) (lower (b .min .z) (c .z)))
-    (vec (higher (b .max .x) (c .x)) (higher (b .max .y) (c .y)) (higher (b .max .z) (c .z)))
+    (vec (lowerCenter (b .min .x) (c .x)) (lowerCenter (b .min .y) (c .y)) (lowerCenter (b .min .z) (c .z)))
+    (vec (higherCenter (b .max .x) (c .x)) (higherCenter (b .max .y) (c .y)) (higherCenter (b .max .z) (c .z)))
 
 -- a box around centres, and the centres of triangles in their order
 unfoldable pub withCenters : Mesh → BoundingBox → List ℕ → BoundingBox

@@ -24,7 +24,7 @@ use Rattle.mesh.specs.Boxes.{vertex, triangleBox, triangleCenter}
 use Rattle.mesh.specs.Mesh.{Mesh, ownBox}
 use Rattle.bvh.specs.Builder.{centerOf, centerOn, lowest, highest, spread, wider, splitAxis, joinAll, nodeBox}
 use Rattle.tree.specs.JoinLaws.{NumberBox, ownBox-numbers}
-use Rattle.bvh.specs.Extent.{lower, higher, withCenter, withCenters, widerAxis, widestAxis, edge, ownEdge, pick, settledEdge, settledBox, joinedEdge, joinedBox}
+use Rattle.bvh.specs.Extent.{lowerCenter, higherCenter, withCenter, withCenters, widerAxis, widestAxis, edge, ownEdge, pick, settledEdge, settledBox, joinedEdge, joinedBox}
 use Rattle.bvh.specs.ExtentZeros.{sub-same}
 use Rattle.bvh.specs.ExtentFolds.{next, picked, least, Floats, least-alike, least-zero, least-settled, least-parts}
 use Rattle.bvh.specs.ExtentFirst.{Small}
@@ -52,7 +52,7 @@ join-edge false axis a b = three Rules.min (eqb axis 0) (eqb axis 1) _ _ _ _ _ _
 join-edge true axis a b = three Rules.max (eqb axis 0) (eqb axis 1) _ _ _ _ _ _
 
 withCenter-edge : (upper : Bool) (axis : ℕ) (b : BoundingBox) (c : Vec3) → edge upper axis (withCenter b c) ≡ cond (Rules.isFinite (component c axis)) (pick upper (edge upper axis b) (component c axis)) (edge upper axis b)
-unfolding edge withCenter component lower higher pick
+unfolding edge withCenter component lowerCenter higherCenter pick
 withCenter-edge false axis b c = three (λ lo x. cond (Rules.isFinite x) (Rules.min lo x) lo) (eqb axis 0) (eqb axis 1) _ _ _ _ _ _
 withCenter-edge true axis b c = three (λ hi x. cond (Rules.isFinite x) (Rules.max hi x) hi) (eqb axis 0) (eqb axis 1) _ _ _ _ _ _
 

@@ -14,8 +14,8 @@ use math::Vec3;
 use mesh::boxes::own_box;
 
 // The lower of `lo` and a centre; one that is not finite does not count.
-fn lower(lo: f64, c: f64) -> f64
-    ensures { λ r. ⌜ r ≡ Extents.lower lo c ⌝ }
+fn lower_center(lo: f64, c: f64) -> f64
+    ensures { λ r. ⌜ r ≡ Extents.lowerCenter lo c ⌝ }
 {
     if float::is_finite(c) {
         float::min(lo, c)
@@ -25,8 +25,8 @@ fn lower(lo: f64, c: f64) -> f64
 }
 
 // The higher of `hi` and a centre; one that is not finite does not count.
-fn higher(hi: f64, c: f64) -> f64
-    ensures { λ r. ⌜ r ≡ Extents.higher hi c ⌝ }
+fn higher_center(hi: f64, c: f64) -> f64
+    ensures { λ r. ⌜ r ≡ Extents.higherCenter hi c ⌝ }
 {
     if float::is_finite(c) {
         float::max(hi, c)
@@ -41,14 +41,14 @@ fn with_center(b: BoundingBox, c: Vec3) -> BoundingBox
 {
     BoundingBox {
         min: Vec3 {
-            x: lower(b.min.x, c.x),
-            y: lower(b.min.y, c.y),
-            z: lower(b.min.z, c.z),
+            x: lower_center(b.min.x, c.x),
+            y: lower_center(b.min.y, c.y),
+            z: lower_center(b.min.z, c.z),
         },
         max: Vec3 {
-            x: higher(b.max.x, c.x),
-            y: higher(b.max.y, c.y),
-            z: higher(b.max.z, c.z),
+            x: higher_center(b.max.x, c.x),
+            y: higher_center(b.max.y, c.y),
+            z: higher_center(b.max.z, c.z),
         },
     }
 }
@@ -144,11 +144,7 @@ pub fn leaf_box(
     let mut b = own_box(coords, corners, ends, sides, items[0]);
     let mut j = 1;
     while j < items.len() {
-        let own = own_box(coords, corners, ends, sides, items[j]);
-        b = BoundingBox {
-            min: b.min.min(own.min),
-            max: b.max.max(own.max),
-        };
+        b = b.join(own_box(coords, corners, ends, sides, items[j]));
         j += 1;
     }
     b
@@ -216,7 +212,7 @@ fn unlike(a: f64, b: f64) -> bool
     (a == b) & (float::order_key(a) != float::order_key(b))
 }
 
-// An edge of the box of items from those of their halves: only of zeros of unlike sign it hangs on the
+// An edge of the box of items from those of their halves: only of zeros of unlike sign it depends on the
 // items.
 fn joined_edge(
     coords: &[f64],

@@ -27,13 +27,13 @@ isEmpty b = not (le (b .min .x) (b .max .x)) || not (le (b .min .y) (b .max .y))
 unfoldable pub include : BoundingBox → Vec3 → BoundingBox
 include b p = box (Vectors.min (b .min) p) (Vectors.max (b .max) p)
 
--- the smallest box around two; an empty one adds nothing
-unfoldable pub union : BoundingBox → BoundingBox → BoundingBox
-union a b = cond (isEmpty a) b (cond (isEmpty b) a (box (Vectors.min (a .min) (b .min)) (Vectors.max (a .max) (b .max))))
-
 -- the box around two boxes, edge by edge; of two equal zeros the left one is kept
 unfoldable pub join : BoundingBox → BoundingBox → BoundingBox
 join a b = box (Vectors.min (a .min) (b .min)) (Vectors.max (a .max) (b .max))
+
+-- the smallest box around two; an empty one adds nothing
+unfoldable pub union : BoundingBox → BoundingBox → BoundingBox
+union a b = cond (isEmpty a) b (cond (isEmpty b) a (join a b))
 
 -- whether box b encloses box c, compared as numbers
 unfoldable pub encloses : BoundingBox → BoundingBox → Bool

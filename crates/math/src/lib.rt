@@ -186,10 +186,7 @@ impl BoundingBox {
         if o.is_empty() {
             return self;
         }
-        BoundingBox {
-            min: self.min.min(o.min),
-            max: self.max.max(o.max),
-        }
+        self.join(o)
     }
 
     // The box around two; unlike `union` it takes no box for empty.

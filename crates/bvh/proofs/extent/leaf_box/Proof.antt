@@ -7,7 +7,6 @@ use mathlib.Core.List.{[]}
 use lib.ListN.{length, drop, drop-of-length-le}
 use borrow.Author.Needs.{needs}
 use Rattle.mesh.specs.Mesh.{mesh}
-use Rattle.math.specs.Boxes.{join}
 use Rattle.bvh.specs.Builder.{joinAll, nodeBox}
 use Rattle.bvh.specs.ExtentLoops.{nodeBox-first, joinAll-next}
 use Rattle.bvh.proofs.extent.leaf_box.Statement.{statement}
@@ -45,25 +44,21 @@ own-box-requires-2 c κs =
     let known = c .before .before .before .before .before .before .before .before .before .pre .0 in
     (known .accepted, known .sides, known .below (c .before .before .loop .j) (c .before .loop-test .taken))
 
-min-requires : tie.Need-min-requires Inv-loop μ-loop
-min-requires c κs = search needs
-
-max-requires : tie.Need-max-requires Inv-loop μ-loop
-max-requires c κs = search needs
+join-requires : tie.Need-join-requires Inv-loop μ-loop
+join-requires c κs = search needs
 
 add-j : tie.Need-add-j Inv-loop μ-loop
-add-j c = omega (arith, c .before .before .before .before .loop-test .taken, c .before .before .before .before .before .before .before .before .before .before .before .before .good .1 .1 .1 .1 .0 .0)
+add-j c = omega (arith, c .before .before .before .loop-test .taken, c .before .before .before .before .before .before .before .before .before .before .before .good .1 .1 .1 .1 .0 .0)
 
 loop-less : tie.Need-loop-less Inv-loop μ-loop
-loop-less c = omega (arith, c .before .before .before .before .loop-test .taken)
+loop-less c = omega (arith, c .before .before .before .loop-test .taken)
 
 loop-again : tie.Need-loop-again Inv-loop μ-loop
-unfolding join
 loop-again c =
-    let a = c .before .before .before .before .before .before .before .before .before .before .before .before .args in
+    let a = c .before .before .before .before .before .before .before .before .before .before .before .args in
     let m = mesh (a .coords .now) (a .corners .now) (a .ends .now) in
-    let next = joinAll-next m (c .before .before .before .before .before .loop .b) (a .items .now) (c .before .before .before .before .before .loop .j) (c .before .before .before .before .loop-test .taken) in
-    (omega (arith, c .before .before .before .before .loop-test .taken), rw (c .max .ensures, c .before .min .ensures, c .before .before .own-box2 .ensures) (sym next ∙ c .before .before .before .before .before .loop .inv .1))
+    let next = joinAll-next m (c .before .before .before .before .loop .b) (a .items .now) (c .before .before .before .before .loop .j) (c .before .before .before .loop-test .taken) in
+    (omega (arith, c .before .before .before .loop-test .taken), rw (c .join .ensures, c .before .own-box2 .ensures) (sym next ∙ c .before .before .before .before .loop .inv .1))
 
 returns : tie.Need-returns Inv-loop μ-loop
 unfolding joinAll
@@ -85,8 +80,7 @@ leaf-box-spec =
     mul-own-box
     shared-slice-read-own-box-2
     own-box-requires-2
-    min-requires
-    max-requires
+    join-requires
     add-j
     loop-less
     loop-again

@@ -19,15 +19,12 @@ returns-2 : tie.Need-returns-2
 unfolding union
 returns-2 c = rw (sym (c .before .before .before .is-empty .ensures) ∙ c .before .before .if1 .left, sym (c .before .is-empty2 .ensures) ∙ c .if2 .taken)
 
-min-requires : tie.Need-min-requires
-min-requires c κs = search needs
-
-max-requires : tie.Need-max-requires
-max-requires c κs = search needs
+join-requires : tie.Need-join-requires
+join-requires c κs = search needs
 
 returns-3 : tie.Need-returns-3
 unfolding union
-returns-3 c = rw (sym (c .before .before .before .before .before .is-empty .ensures) ∙ c .before .before .before .before .if1 .left, sym (c .before .before .before .is-empty2 .ensures) ∙ c .before .before .if2 .left) (cc)
+returns-3 c = rw (sym (c .before .before .before .before .is-empty .ensures) ∙ c .before .before .before .if1 .left, sym (c .before .before .is-empty2 .ensures) ∙ c .before .if2 .left) (c .join .ensures)
 
 pub union-spec : {M : Type 1} → statement M
 union-spec =
@@ -37,6 +34,5 @@ union-spec =
     returns
     is-empty-requires-2
     returns-2
-    min-requires
-    max-requires
+    join-requires
     returns-3)
