@@ -1,12 +1,11 @@
 -- What a record of each kind says of the engine: whether the call that it describes gives, by the engine's definitions, what the record says. Definitions only.
 use Prim.Native.Nat.{ℕ, _+_}
-use mathlib.Core.Bool.{Bool, cond, _&&_}
+use mathlib.Core.Bool.{cond, _&&_}
 use mathlib.Core.List.{List}
 use lib.Dec.{eqb, leb}
 use lib.Ieee.{Float}
 use lib.ListN.{length, getD, drop, replicate}
 use Rattle.lent.specs.Over.{over}
-use Rattle.refusal.specs.declared.Verdict.{Verdict}
 use Rattle.refusal.specs.Verdicts as Verdicts
 use Rattle.refusal.specs.Verdicts.{returned}
 use Rattle.mesh.specs.Mesh.{Mesh, mesh}

@@ -3,7 +3,6 @@
 ghost use mathlib.Core.Path.{_≡_};
 ghost use Prim.Native.Nat.{_+_, _≤_, _<_};
 ghost use lib.ListN.{length, take, drop};
-ghost use Rattle.text.specs.Fields as Fields;
 ghost use Rattle.text.specs.Lines as Lines;
 use super::fields::Field;
 use super::fields::read_field;
