@@ -1,4 +1,4 @@
--- What the builder measures does not hang on the order of a node's items: `nodeBox-any-order` and `splitAxis-any-order`. An inner node's box
+-- What the builder measures does not depend on the order of a node's items: `nodeBox-any-order` and `splitAxis-any-order`. An inner node's box
 -- follows from those of its halves, and the axis from the box around the centres: `joined-halves` and `centers-axis`.
 use Prim.Native.Nat.{ℕ, _+_, _*_, _≤_, _<_}
 use native.Mathlib.Omega.{arith}
@@ -107,7 +107,7 @@ module _ (m : Mesh) (items : List ℕ) where
   unfolding spread
   spread-least l axis = ap₂ _⊖_ (highest-picked m axis (inf true) l) (lowest-picked m axis (inf false) l)
 
-  -- the spread on an axis does not hang on the order of the items: where both ends are zero both are the first zero
+  -- the spread on an axis does not depend on the order of the items: where both ends are zero both are the first zero
   pub spread-any-order : (axis : ℕ) → spread m (sorted items) axis ≡ spread m items axis
   spread-any-order axis =
       let finite = finiteOn m axis in
@@ -122,7 +122,7 @@ module _ (m : Mesh) (items : List ℕ) where
   unfolding wider
   wider-any-order a b = rw (spread-any-order a, spread-any-order b)
 
-  -- the axis on which a node is split does not hang on the order of its items
+  -- the axis on which a node is split does not depend on the order of its items
   pub splitAxis-any-order : splitAxis m (sorted items) ≡ splitAxis m items
   unfolding splitAxis
   splitAxis-any-order = rw (wider-any-order 0 1, wider-any-order (wider m items 0 1) 2)

@@ -1,4 +1,4 @@
-//! The sample of csx's answers that the program `replay` is given: calls of the C
+//! The sample of csx's answers that the program `csx_answers` is given: calls of the C
 //! functions, what they return and what they write. See README.md for the format.
 //! Nothing here calls the engine.
 
