@@ -44,7 +44,7 @@ fn weld(
 }
 
 // Compares the number returned with the fifth word, and each buffer with the lists behind it.
-fn compared(
+fn welded(
     words: &[u64],
     returned: u64,
     coords: &[f64],
@@ -96,5 +96,5 @@ pub fn replay(words: &[u64]) -> Outcome
         &mut ends,
         &mut sizes,
     );
-    compared(rest, returned, &coords, &corners, &ends, &sizes)
+    welded(rest, returned, &coords, &corners, &ends, &sizes)
 }

@@ -86,24 +86,24 @@ slice-aggregate-weld-5 c = search needs
 weld-requires : tie.Need-weld-requires
 weld-requires c κs = search needs
 
-slice-aggregate-compared : tie.Need-slice-aggregate-compared
-slice-aggregate-compared c = search needs
+slice-aggregate-welded : tie.Need-slice-aggregate-welded
+slice-aggregate-welded c = search needs
 
-slice-aggregate-compared-2 : tie.Need-slice-aggregate-compared-2
-slice-aggregate-compared-2 c = search needs
+slice-aggregate-welded-2 : tie.Need-slice-aggregate-welded-2
+slice-aggregate-welded-2 c = search needs
 
-slice-aggregate-compared-3 : tie.Need-slice-aggregate-compared-3
-slice-aggregate-compared-3 c = search needs
+slice-aggregate-welded-3 : tie.Need-slice-aggregate-welded-3
+slice-aggregate-welded-3 c = search needs
 
-slice-aggregate-compared-4 : tie.Need-slice-aggregate-compared-4
-slice-aggregate-compared-4 c = search needs
+slice-aggregate-welded-4 : tie.Need-slice-aggregate-welded-4
+slice-aggregate-welded-4 c = search needs
 
-compared-requires : tie.Need-compared-requires
-compared-requires c κs = search needs
+welded-requires : tie.Need-welded-requires
+welded-requires c κs = search needs
 
 returns-3 : tie.Need-returns-3
 returns-3 c =
-    welding-call _ (c .before .before .before .before .before .before .before .before .before .before .before .before .before .before .before .before .before .before .before .before .before .before .before .before .before .before .before .after .ensures .0) (c .before .before .before .before .before .before .before .before .before .before .before .before .before .before .before .before .before .before .before .before .before .before .before .before .before .before .before .after .ensures .1 .0) (omega arith) (c .before .before .before .before .before .before .before .before .before .before .before .before .before .before .before .before .before .before .before .before .before .before .before .before .before .float-places .ensures .1) (c .before .before .before .before .before .before .before .before .before .before .before .before .before .before .before .before .before .before .put-floats .ensures) (c .before .before .before .before .before .before .before .before .before .before .before .before .before .before .before .before .if2 .left) (c .before .before .before .before .before .before .before .before .before .before .before .before .before .before .before .before .before .before .before .before .before .before .before .before .before .before .if1 .left) (c .before .before .before .before .before .before .before .before .before .before .before .before .before .before .before .before .before .before .before .before .before .before .before .before .float-places2 .ensures .0) (c .before .before .before .before .before .before .before .before .before .before .before .before .before .before .before .before .before .before .before .before .before .before .before .number-places .ensures .0) (c .before .before .before .before .before .before .before .before .before .before .before .before .before .before .before .before .before .before .before .before .before .before .number-places2 .ensures .0) (c .before .before .before .before .before .before .before .before .before .before .before .before .before .before .before .before .before .before .before .before .before .word-places .ensures .0) (c .before .before .before .before .before .before .before .before .before .weld .ensures) (c .compared .ensures)
+    welding-call _ (c .before .before .before .before .before .before .before .before .before .before .before .before .before .before .before .before .before .before .before .before .before .before .before .before .before .before .before .after .ensures .0) (c .before .before .before .before .before .before .before .before .before .before .before .before .before .before .before .before .before .before .before .before .before .before .before .before .before .before .before .after .ensures .1 .0) (omega arith) (c .before .before .before .before .before .before .before .before .before .before .before .before .before .before .before .before .before .before .before .before .before .before .before .before .before .float-places .ensures .1) (c .before .before .before .before .before .before .before .before .before .before .before .before .before .before .before .before .before .before .put-floats .ensures) (c .before .before .before .before .before .before .before .before .before .before .before .before .before .before .before .before .if2 .left) (c .before .before .before .before .before .before .before .before .before .before .before .before .before .before .before .before .before .before .before .before .before .before .before .before .before .before .if1 .left) (c .before .before .before .before .before .before .before .before .before .before .before .before .before .before .before .before .before .before .before .before .before .before .before .before .float-places2 .ensures .0) (c .before .before .before .before .before .before .before .before .before .before .before .before .before .before .before .before .before .before .before .before .before .before .before .number-places .ensures .0) (c .before .before .before .before .before .before .before .before .before .before .before .before .before .before .before .before .before .before .before .before .before .before .number-places2 .ensures .0) (c .before .before .before .before .before .before .before .before .before .before .before .before .before .before .before .before .before .before .before .before .before .word-places .ensures .0) (c .before .before .before .before .before .before .before .before .before .weld .ensures) (c .welded .ensures)
 
 pub replay-spec : {M : Type 1} → statement M
 replay-spec =
@@ -135,9 +135,9 @@ replay-spec =
     slice-aggregate-weld-4
     slice-aggregate-weld-5
     weld-requires
-    slice-aggregate-compared
-    slice-aggregate-compared-2
-    slice-aggregate-compared-3
-    slice-aggregate-compared-4
-    compared-requires
+    slice-aggregate-welded
+    slice-aggregate-welded-2
+    slice-aggregate-welded-3
+    slice-aggregate-welded-4
+    welded-requires
     returns-3)

@@ -1,8 +1,8 @@
--- `welding::compared` meets its contract: the lists end the record, or they do not.
+-- `welding::welded` meets its contract: the lists end the record, or they do not.
 use borrow.Author.Needs.{needs}
 use Rattle.replay.proofs.CompareLaws.{welded-cut, welded-whole}
-use Rattle.replay.proofs.welding.compared.Statement.{statement}
-use Rattle.replay.proofs.welding.compared.Tie as tie
+use Rattle.replay.proofs.welding.welded.Statement.{statement}
+use Rattle.replay.proofs.welding.welded.Tie as tie
 
 after-requires : tie.Need-after-requires
 after-requires c κs = search needs
@@ -94,8 +94,8 @@ judged-requires c κs = search needs
 returns-2 : tie.Need-returns-2
 returns-2 c = welded-whole _ _ _ _ _ _ _ _ _ _ (c .before .before .before .before .before .before .before .before .before .before .before .before .before .before .after .ensures .0) (c .before .before .before .before .before .before .before .before .before .before .before .before .before .after2 .ensures .0) (c .before .before .before .before .before .before .before .before .before .before .before .before .after3 .ensures .0) (c .before .before .before .before .before .before .before .before .before .before .before .after4 .ensures .0) _ _ _ _ _ (c .before .before .before .before .before .before .before .before .before .before .if1 .left) (c .before .before .before .before .before .before .before .floats-are .ensures) (c .before .before .before .before .before .numbers-are .ensures) (c .before .before .before .numbers-are2 .ensures) (c .before .words-are .ensures) (c .judged .ensures)
 
-pub compared-spec : {M : Type 1} → statement M
-compared-spec =
+pub welded-spec : {M : Type 1} → statement M
+welded-spec =
     tie.close
     (tie.spec
     after-requires
