@@ -16,8 +16,8 @@ extern "C" {
    Each function but csx_root returns a number below 1,000,000, or a refusal: the number of the question that
    turned the call down times 1,000,000, plus a place below 1,000,000.
 
-   Every shape question returns 0 if the point x, y, z lies outside, 1 if it lies inside, or a refusal:
-   its number times 1,000,000 plus a place. The questions are asked in this order:
+   Every shape question returns 0 if the point x, y, z lies outside, 1 if it lies inside, or a refusal.
+   The questions are asked in this order:
      11,000,000  the list of a polygon, wire or multi-box is no whole number of entries (2, 3 and 6
                  numbers each), or has more than 4,096
      10,000,000  a number of the shape or of its list is infinite or NaN

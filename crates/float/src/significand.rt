@@ -6,6 +6,7 @@ ghost use Prim.Native.Nat.{_+_, _*_, _%_, _^_, _<_};
 ghost use Rattle.float.specs.Guess as Guess;
 ghost use Rattle.float.specs.Root.{nearestRoot};
 ghost use Rattle.float.specs.Steps.{Finds};
+
 // What a look at a guess and its neighbours finds: the root, or that none of them is it.
 pub enum Found {
     At(u64),
