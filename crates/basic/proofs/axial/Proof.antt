@@ -18,7 +18,7 @@ norm-sq-requires c κs = search needs
 returns : tie.Need-returns
 unfolding axial
 returns c =
-    let none : eq (normSq (sub (c .before .before .before .args .b) (c .before .before .before .args .a))) zero ≡ true = cc in
+    let none : eq (normSq (sub (c .before .before .before .args .b) (c .before .before .before .args .a))) zero ≡ true = rw (← c .before .before .sub .ensures, ← c .before .norm-sq .ensures) (c .if1 .taken) in
     rw none
 
 sub-requires-2 : tie.Need-sub-requires-2
@@ -45,8 +45,8 @@ root-requires c κs = search needs
 returns-2 : tie.Need-returns-2
 unfolding axial
 returns-2 c =
-    let some : eq (normSq (sub (c .before .before .before .before .before .before .before .before .before .before .args .b) (c .before .before .before .before .before .before .before .before .before .before .args .a))) zero ≡ false = cc in
-    rw some (cc)
+    let some : eq (normSq (sub (c .before .before .before .before .before .before .before .before .before .before .args .b) (c .before .before .before .before .before .before .before .before .before .before .args .a))) zero ≡ false = rw (← c .before .before .before .before .before .before .before .before .before .sub .ensures, ← c .before .before .before .before .before .before .before .before .norm-sq .ensures) (c .before .before .before .before .before .before .before .if1 .left) in
+    rw (some, c .root .ensures, c .before .norm .ensures, c .before .before .sub3 .ensures, c .before .before .before .add .ensures, c .before .before .before .before .mul .ensures, c .before .before .before .before .before .dot .ensures, c .before .before .before .before .before .before .sub2 .ensures, c .before .before .before .before .before .before .before .before .norm-sq .ensures, c .before .before .before .before .before .before .before .before .before .sub .ensures)
 
 pub axial-spec : {M : Type 1} → statement M
 axial-spec =

@@ -9,7 +9,7 @@ tol-requires c κs = search needs
 
 returns : tie.Need-returns
 unfolding betweenEnds
-returns c = cc
+returns c = rw (c .tol .ensures)
 
 pub between-ends-spec : {M : Type 1} → statement M
 between-ends-spec = tie.close (tie.spec tol-requires returns)

@@ -15,7 +15,7 @@ tol-requires c κs = search needs
 
 returns : tie.Need-returns
 unfolding inShell
-returns c = cc
+returns c = rw (c .tol .ensures, c .before .abs2 .ensures, c .before .before .abs .ensures)
 
 pub in-shell-spec : {M : Type 1} → statement M
 in-shell-spec = tie.close (tie.spec abs-requires abs-requires-2 tol-requires returns)

@@ -22,7 +22,7 @@ enum-told c = search needs
 
 returns : tie.Need-returns
 unfolding insideCylinder inCylinder
-returns c = rw (sym (c .before .before .before .before .before .axial .ensures) ∙ c .before .before .before .t .given .1) (cc)
+returns c = rw (sym (c .before .before .before .before .before .axial .ensures) ∙ c .before .before .before .t .given .1, c .tol .ensures, c .before .between-ends .ensures)
 
 returns-2 : tie.Need-returns-2
 unfolding insideCylinder inCylinder

@@ -43,7 +43,7 @@ returns : tie.Need-returns Inv-loop μ-loop
 returns c =
     let boxes = c .before .before .before .before .before .before .before .args .boxes .now in
     let k = c .before .before .before .before .before .loop .k in
-    let found : insideBox (at boxes (6 * k)) (at boxes (6 * k + 3)) (c .before .before .before .before .before .before .before .args .p) ≡ true = cc in
+    let found : insideBox (at boxes (6 * k)) (at boxes (6 * k + 3)) (c .before .before .before .before .before .before .before .args .p) ≡ true = rw (← c .before .before .before .at .ensures, ← c .before .before .at2 .ensures, ← c .before .inside-box .ensures) (c .if1 .taken) in
     sym (inSomeBox-next boxes k (c .before .before .before .before .before .before .before .args .p) (omega arith) ∙ rw found) ∙ c .before .before .before .before .before .loop .inv .1
 
 add-k : tie.Need-add-k Inv-loop μ-loop
@@ -56,7 +56,7 @@ loop-again : tie.Need-loop-again Inv-loop μ-loop
 loop-again c =
     let boxes = c .before .before .before .before .before .before .before .args .boxes .now in
     let k = c .before .before .before .before .before .loop .k in
-    let none : insideBox (at boxes (6 * k)) (at boxes (6 * k + 3)) (c .before .before .before .before .before .before .before .args .p) ≡ false = cc in
+    let none : insideBox (at boxes (6 * k)) (at boxes (6 * k + 3)) (c .before .before .before .before .before .before .before .args .p) ≡ false = rw (← c .before .before .before .at .ensures, ← c .before .before .at2 .ensures, ← c .before .inside-box .ensures) (c .if1 .left) in
     (search needs, rw none at (sym (inSomeBox-next boxes k (c .before .before .before .before .before .before .before .args .p) (omega arith))) ∙ c .before .before .before .before .before .loop .inv .1)
 
 returns-2 : tie.Need-returns-2 Inv-loop μ-loop

@@ -15,7 +15,7 @@ tol-requires c κs = search needs
 
 returns : tie.Need-returns
 unfolding insideSphere
-returns c = cc
+returns c = rw (c .tol .ensures, c .before .norm .ensures, c .before .before .sub .ensures)
 
 pub inside-sphere-spec : {M : Type 1} → statement M
 inside-sphere-spec = tie.close (tie.spec sub-requires norm-requires tol-requires returns)

@@ -15,7 +15,7 @@ in-shell-requires c κs = search needs
 
 returns : tie.Need-returns
 unfolding insideSphericalShell
-returns c = cc
+returns c = rw (c .in-shell .ensures, c .before .norm .ensures, c .before .before .sub .ensures)
 
 pub inside-spherical-shell-spec : {M : Type 1} → statement M
 inside-spherical-shell-spec =

@@ -9,7 +9,7 @@ angle-in-range-requires c κs = search needs
 
 returns : tie.Need-returns
 unfolding angleOk
-returns c = cc
+returns c = rw (c .angle-in-range .ensures)
 
 pub angle-ok-spec : {M : Type 1} → statement M
 angle-ok-spec = tie.close (tie.spec angle-in-range-requires returns)

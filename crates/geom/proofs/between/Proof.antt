@@ -15,7 +15,7 @@ max-requires c κs = search needs
 
 returns : tie.Need-returns
 unfolding between
-returns c = cc
+returns c = rw (c .max .ensures, c .before .tol2 .ensures, c .before .before .tol .ensures)
 
 pub between-spec : {M : Type 1} → statement M
 between-spec = tie.close (tie.spec tol-requires tol-requires-2 max-requires returns)

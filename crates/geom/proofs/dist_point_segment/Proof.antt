@@ -33,7 +33,7 @@ norm-requires c κs = search needs
 
 returns : tie.Need-returns
 unfolding distPointSegment
-returns c = cc
+returns c = rw (c .norm .ensures, c .before .sub3 .ensures, c .before .before .add .ensures, c .before .before .before .mul .ensures, c .before .before .before .before .parameter .ensures, c .before .before .before .before .before .norm-sq .ensures, c .before .before .before .before .before .before .dot .ensures, c .before .before .before .before .before .before .before .sub2 .ensures, c .before .before .before .before .before .before .before .before .sub .ensures)
 
 pub dist-point-segment-spec : {M : Type 1} → statement M
 dist-point-segment-spec =

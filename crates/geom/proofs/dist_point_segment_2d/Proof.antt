@@ -12,7 +12,7 @@ hypot-requires c κs = search needs
 
 returns : tie.Need-returns
 unfolding distPointSegment2d
-returns c = cc
+returns c = rw (c .hypot .ensures, c .before .before .before .before .before .parameter .ensures)
 
 pub dist-point-segment-2d-spec : {M : Type 1} → statement M
 dist-point-segment-2d-spec = tie.close (tie.spec parameter-requires hypot-requires returns)

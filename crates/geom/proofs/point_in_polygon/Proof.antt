@@ -39,7 +39,7 @@ loop-holds : tie.Need-loop-holds Inv-loop μ-loop
 loop-holds c =
     let poly = c .before .before .before .before .before .args .poly .now in
     let start = pointInPolygon-around (c .before .before .before .before .before .args .p) poly (length poly / 2 - 1) (omega arith) in
-    (omega arith, cc)
+    (omega arith, rw (c .vertex .ensures, c .before .tol-of .ensures, c .before .before .scale .ensures) (sym start))
 
 vertex-requires-2 : tie.Need-vertex-requires-2 Inv-loop μ-loop
 vertex-requires-2 c κs = search needs
@@ -52,8 +52,8 @@ returns-2 c =
     let p = c .before .before .before .before .before .before .before .before .before .before .args .p in
     let poly = c .before .before .before .before .before .before .before .before .before .before .args .poly .now in
     let k = c .before .before .before .before .loop .k in
-    let on : le (distPointSegment2d p (vertex poly k) (c .before .before .before .before .loop .j)) (c .before .before .before .before .before .before .tol-of .result) ≡ true = cc in
-    cc (around-on p _ (c .before .before .before .before .loop .j) (c .before .before .before .before .loop .inside) poly k (omega arith) on)
+    let on : le (distPointSegment2d p (vertex poly k) (c .before .before .before .before .loop .j)) (c .before .before .before .before .before .before .tol-of .result) ≡ true = rw (← c .before .before .vertex2 .ensures, ← c .before .dist-point-segment-2d .ensures) (c .if2 .taken) in
+    sym (around-on p _ (c .before .before .before .before .loop .j) (c .before .before .before .before .loop .inside) poly k (omega arith) on) ∙ c .before .before .before .before .loop .inv .1
 
 crosses-requires : tie.Need-crosses-requires Inv-loop μ-loop
 crosses-requires c κs = search needs
@@ -69,8 +69,8 @@ loop-again c =
     let p = c .before .before .before .before .before .before .before .before .before .before .before .args .p in
     let poly = c .before .before .before .before .before .before .before .before .before .before .before .args .poly .now in
     let k = c .before .before .before .before .before .loop .k in
-    let off : le (distPointSegment2d p (vertex poly k) (c .before .before .before .before .before .loop .j)) (c .before .before .before .before .before .before .before .tol-of .result) ≡ false = cc in
-    (search needs, cc (around-off p _ (c .before .before .before .before .before .loop .j) (c .before .before .before .before .before .loop .inside) poly k (omega arith) off))
+    let off : le (distPointSegment2d p (vertex poly k) (c .before .before .before .before .before .loop .j)) (c .before .before .before .before .before .before .before .tol-of .result) ≡ false = rw (← c .before .before .before .vertex2 .ensures, ← c .before .before .dist-point-segment-2d .ensures) (c .before .if2 .left) in
+    (search needs, rw (c .crosses .ensures, c .before .before .before .vertex2 .ensures) (sym (around-off p _ (c .before .before .before .before .before .loop .j) (c .before .before .before .before .before .loop .inside) poly k (omega arith) off) ∙ c .before .before .before .before .before .loop .inv .1))
 
 returns-3 : tie.Need-returns-3 Inv-loop μ-loop
 returns-3 c = sym (around-end _ _ _ _ (c .before .before .before .before .before .before .before .args .poly .now) (c .before .loop .k) (omega arith)) ∙ c .before .loop .inv .1

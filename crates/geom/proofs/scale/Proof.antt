@@ -2,7 +2,7 @@
 -- The measure is what is left of the list.
 use Prim.Native.Nat.{ℕ, _≤_, _-_}
 use native.Mathlib.Omega.{arith}
-use mathlib.Core.Path.{_≡_, refl, ap, _∙_}
+use mathlib.Core.Path.{sym, _≡_, refl, ap, _∙_}
 use mathlib.Core.List.{[]}
 use lib.ListN.{length, drop}
 use lib.Seq.{drop-length}
@@ -43,7 +43,7 @@ loop-again : tie.Need-loop-again Inv-loop μ-loop
 loop-again c =
     let at = c .before .before .before .before .loop .i in
     let next = scaleFrom-next (c .before .before .before .before .loop .m) (c .before .before .before .before .before .before .args .list .now) at (omega arith) in
-    (search needs, cc)
+    (search needs, rw (c .max .ensures, c .before .abs .ensures) (sym next ∙ c .before .before .before .before .loop .inv .1))
 
 returns : tie.Need-returns Inv-loop μ-loop
 unfolding scaleFrom

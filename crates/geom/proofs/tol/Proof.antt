@@ -18,7 +18,7 @@ tol-of-requires c κs = search needs
 
 returns : tie.Need-returns
 unfolding tol
-returns c = cc
+returns c = rw (c .tol-of .ensures, c .before .max .ensures, c .before .before .abs2 .ensures, c .before .before .before .abs .ensures)
 
 pub tol-spec : {M : Type 1} → statement M
 tol-spec = tie.close (tie.spec abs-requires abs-requires-2 max-requires tol-of-requires returns)

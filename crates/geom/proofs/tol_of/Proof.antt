@@ -9,7 +9,7 @@ max-requires c κs = search needs
 
 returns : tie.Need-returns
 unfolding tolOf
-returns c = cc
+returns c = rw (c .max .ensures)
 
 pub tol-of-spec : {M : Type 1} → statement M
 tol-of-spec = tie.close (tie.spec max-requires returns)

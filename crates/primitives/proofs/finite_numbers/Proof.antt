@@ -120,51 +120,51 @@ is-finite-requires-21 c κs = search needs
 
 returns : tie.Need-returns
 unfolding finiteNumbers
-returns c = rw (c .before .before .before .shape .given .1) (cc)
+returns c = rw (c .before .before .before .shape .given .1, c .is-finite2 .ensures, c .before .is-finite .ensures)
 
 returns-2 : tie.Need-returns-2
 unfolding finiteNumbers
-returns-2 c = rw (c .before .before .before .shape2 .given .1) (cc)
+returns-2 c = rw (c .before .before .before .shape2 .given .1, c .is-finite4 .ensures, c .before .is-finite3 .ensures)
 
 returns-3 : tie.Need-returns-3
 unfolding finiteNumbers
-returns-3 c = rw (c .before .enum-told .given .1) (cc)
+returns-3 c = rw (c .before .enum-told .given .1, c .all-finite .ensures)
 
 returns-4 : tie.Need-returns-4
 unfolding finiteNumbers
-returns-4 c = rw (c .before .before .before .shape3 .given .1) (cc)
+returns-4 c = rw (c .before .before .before .shape3 .given .1, c .is-finite6 .ensures, c .before .is-finite5 .ensures)
 
 returns-5 : tie.Need-returns-5
 unfolding finiteNumbers
-returns-5 c = rw (c .before .before .before .before .shape4 .given .1) (cc)
+returns-5 c = rw (c .before .before .before .before .shape4 .given .1, c .is-finite9 .ensures, c .before .is-finite8 .ensures, c .before .before .is-finite7 .ensures)
 
 returns-6 : tie.Need-returns-6
 unfolding finiteNumbers
-returns-6 c = rw (c .before .before .before .before .shape5 .given .1) (cc)
+returns-6 c = rw (c .before .before .before .before .shape5 .given .1, c .is-finite12 .ensures, c .before .is-finite11 .ensures, c .before .before .is-finite10 .ensures)
 
 returns-7 : tie.Need-returns-7
 unfolding finiteNumbers
-returns-7 c = rw (c .before .before .before .before .before .shape6 .given .1) (cc)
+returns-7 c = rw (c .before .before .before .before .before .shape6 .given .1, c .is-finite16 .ensures, c .before .is-finite15 .ensures, c .before .before .is-finite14 .ensures, c .before .before .before .is-finite13 .ensures)
 
 returns-8 : tie.Need-returns-8
 unfolding finiteNumbers
-returns-8 c = rw (c .before .before .before .shape7 .given .1) (cc)
+returns-8 c = rw (c .before .before .before .shape7 .given .1, c .all-finite2 .ensures, c .before .is-finite17 .ensures)
 
 returns-9 : tie.Need-returns-9
 unfolding finiteNumbers
-returns-9 c = rw (c .before .before .before .before .shape8 .given .1) (cc)
+returns-9 c = rw (c .before .before .before .before .shape8 .given .1, c .all-finite3 .ensures, c .before .is-finite19 .ensures, c .before .before .is-finite18 .ensures)
 
 returns-10 : tie.Need-returns-10
 unfolding finiteNumbers
-returns-10 c = rw (c .before .enum-told2 .given .1) (cc)
+returns-10 c = rw (c .before .enum-told2 .given .1, c .all-finite4 .ensures)
 
 returns-11 : tie.Need-returns-11
 unfolding finiteNumbers
-returns-11 c = rw (c .before .before .before .shape9 .given .1) (cc)
+returns-11 c = rw (c .before .before .before .shape9 .given .1, c .all-finite5 .ensures, c .before .is-finite20 .ensures)
 
 returns-12 : tie.Need-returns-12
 unfolding finiteNumbers
-returns-12 c = rw (c .before .before .shape10 .given .1) (cc)
+returns-12 c = rw (c .before .before .shape10 .given .1, c .is-finite21 .ensures)
 
 pub finite-numbers-spec : {M : Type 1} → statement M
 finite-numbers-spec =

@@ -12,7 +12,7 @@ add-requires c κs = search needs
 
 returns : tie.Need-returns
 unfolding along
-returns c = cc
+returns c = rw (c .add .ensures, c .before .mul .ensures)
 
 pub along-spec : {M : Type 1} → statement M
 along-spec = tie.close (tie.spec mul-requires add-requires returns)

@@ -12,7 +12,7 @@ nearest-requires c κs = search needs
 
 returns : tie.Need-returns
 unfolding closestOnTriangle
-returns c = cc
+returns c = rw (c .nearest .ensures, c .before .products-of .ensures)
 
 pub closest-on-triangle-spec : {M : Type 1} → statement M
 closest-on-triangle-spec = tie.close (tie.spec products-of-requires nearest-requires returns)

@@ -39,7 +39,7 @@ dot-requires-6 c κs = search needs
 
 returns : tie.Need-returns
 unfolding productsOf
-returns c = cc
+returns c = rw (c .dot6 .ensures, c .before .dot5 .ensures, c .before .before .dot4 .ensures, c .before .before .before .dot3 .ensures, c .before .before .before .before .dot2 .ensures, c .before .before .before .before .before .dot .ensures, c .before .before .before .before .before .before .sub5 .ensures, c .before .before .before .before .before .before .before .sub4 .ensures, c .before .before .before .before .before .before .before .before .sub3 .ensures, c .before .before .before .before .before .before .before .before .before .sub2 .ensures, c .before .before .before .before .before .before .before .before .before .before .sub .ensures)
 
 pub products-of-spec : {M : Type 1} → statement M
 products-of-spec =

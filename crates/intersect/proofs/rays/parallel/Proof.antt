@@ -15,7 +15,7 @@ abs-requires c κs = search needs
 
 returns : tie.Need-returns
 unfolding parallel
-returns c = cc
+returns c = rw (c .abs .ensures, c .before .norm2 .ensures, c .before .before .norm .ensures)
 
 pub parallel-spec : {M : Type 1} → statement M
 parallel-spec = tie.close (tie.spec norm-requires norm-requires-2 abs-requires returns)

@@ -12,7 +12,7 @@ mul-requires c κs = search needs
 
 returns : tie.Need-returns
 unfolding center
-returns c = cc
+returns c = rw (c .mul .ensures) (rw (c .before .add .ensures))
 
 pub center-spec : {M : Type 1} → statement M
 center-spec = tie.close (tie.spec add-requires mul-requires returns)

@@ -15,7 +15,7 @@ add-requires c κs = search needs
 
 returns : tie.Need-returns
 unfolding expanded
-returns c = cc
+returns c = rw (c .add .ensures) (rw (c .before .sub .ensures) (rw (c .before .before .new .ensures)))
 
 pub expanded-spec : {M : Type 1} → statement M
 expanded-spec = tie.close (tie.spec new-requires sub-requires add-requires returns)

@@ -12,7 +12,7 @@ max-requires c κs = search needs
 
 returns : tie.Need-returns
 unfolding include
-returns c = cc
+returns c = rw (c .max .ensures, c .before .min .ensures)
 
 pub include-spec : {M : Type 1} → statement M
 include-spec = tie.close (tie.spec min-requires max-requires returns)

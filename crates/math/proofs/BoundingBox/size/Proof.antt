@@ -9,7 +9,7 @@ sub-requires c κs = search needs
 
 returns : tie.Need-returns
 unfolding size
-returns c = cc
+returns c = rw (c .sub .ensures)
 
 pub size-spec : {M : Type 1} → statement M
 size-spec = tie.close (tie.spec sub-requires returns)

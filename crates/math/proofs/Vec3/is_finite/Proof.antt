@@ -15,7 +15,7 @@ is-finite-requires-3 c κs = search needs
 
 returns : tie.Need-returns
 unfolding isFinite
-returns c = cc
+returns c = rw (c .is-finite3 .ensures, c .before .is-finite2 .ensures, c .before .before .is-finite .ensures)
 
 pub is-finite-spec : {M : Type 1} → statement M
 is-finite-spec =

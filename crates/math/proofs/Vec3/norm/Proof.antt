@@ -12,7 +12,7 @@ root-requires c κs = search needs
 
 returns : tie.Need-returns
 unfolding norm
-returns c = cc
+returns c = rw (c .root .ensures, c .before .norm-sq .ensures)
 
 pub norm-spec : {M : Type 1} → statement M
 norm-spec = tie.close (tie.spec norm-sq-requires root-requires returns)

@@ -9,7 +9,7 @@ dot-requires c κs = search needs
 
 returns : tie.Need-returns
 unfolding normSq
-returns c = cc
+returns c = rw (c .dot .ensures)
 
 pub norm-sq-spec : {M : Type 1} → statement M
 norm-sq-spec = tie.close (tie.spec dot-requires returns)

@@ -41,7 +41,7 @@ loop-less c = search needs
 loop-again : tie.Need-loop-again Inv-loop μ-loop
 loop-again c =
     let next = includeAll-next (c .before .before .before .loop .b) (c .before .before .before .before .before .before .args .coords .now) (c .before .before .before .loop .v) (omega arith) in
-    (omega arith, cc)
+    (omega arith, rw (c .include .ensures, c .before .at .ensures) (sym next ∙ c .before .before .before .loop .inv .1))
 
 returns : tie.Need-returns Inv-loop μ-loop
 unfolding includeAll

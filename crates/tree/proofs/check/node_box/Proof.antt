@@ -21,7 +21,7 @@ at-requires-2 c κs = search needs
 
 returns : tie.Need-returns
 unfolding boxAt
-returns c = cc
+returns c = rw (c .at2 .ensures, c .before .at .ensures)
 
 pub node-box-spec : {M : Type 1} → statement M
 node-box-spec = tie.close (tie.spec mul-at at-requires mul-at-2 add-at at-requires-2 returns)
