@@ -3,7 +3,7 @@ use mathlib.Core.Bool.{Bool, false, cond, _&&_}
 use lib.Ieee.{Float, neg, le, eq}
 use Rattle.float.specs.Arithmetic.{_⊕_, _⊖_, _⊘_, zero, one, two}
 use Rattle.float.specs.Rules.{abs}
-use Rattle.float.specs.Root.{root}
+use Rattle.sqrt.specs.Root.{root}
 use Rattle.geom.specs.Tolerance.{tol}
 use Rattle.math.specs.declared.Vec3.{Vec3}
 use Rattle.math.specs.Vectors.{add, sub, mul, dot, norm, normSq}

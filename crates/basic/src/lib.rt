@@ -92,7 +92,7 @@ fn axial(a: Vec3, b: Vec3, p: Vec3) -> Along
     Along::At {
         t: t,
         d: p.sub(a.add(axis.mul(t))).norm(),
-        len: float::sqrt::root(l2),
+        len: sqrt::root(l2),
     }
 }
 

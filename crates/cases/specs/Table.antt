@@ -5,7 +5,7 @@ use mathlib.Core.List.{List, [], _∷_}
 use lib.Dec.{eqb}
 use lib.Ieee.{Float, binary64, ofBits, toBits}
 use Rattle.float.specs.Arithmetic.{zero, one}
-use Rattle.float.specs.Root.{root}
+use Rattle.sqrt.specs.Root.{root}
 use Rattle.math.specs.declared.Vec3.{Vec3}
 use Rattle.math.specs.Vectors.{vec}
 use Rattle.geom.specs.Tolerance.{inRange}

@@ -10,7 +10,7 @@ use borrow.Author.Tests.{eqb-true}
 use Rattle.refusal.specs.Verdicts.{both}
 use lib.Ieee.{toBits, ofBits, le, lt, ne, eq, add, sub, mul}
 use Rattle.float.specs.Rules as Rules
-use Rattle.float.specs.Root.{root}
+use Rattle.sqrt.specs.Root.{root}
 use Rattle.float.specs.TotalOrder.{orderKey, keyOf}
 use Rattle.math.specs.Vectors as Vectors
 use Rattle.geom.specs.Tolerance.{tolOf, tol, between, inRange, scale, scaleFrom}

@@ -4,10 +4,6 @@ pub mod Arithmetic
 pub mod Tests
 pub mod Quanta
 pub mod TotalOrder
-pub mod Root
-pub mod Guess
 pub mod Order
 pub mod Patterns
 pub mod OrderTheorems
-pub mod RootTheorem
-pub mod Steps

@@ -1,7 +1,5 @@
 // Operations on `f64` as Rust's standard library has them, and the sort key of an `f64`. The definitions
 // are in specs/Rules.antt and specs/TotalOrder.antt, the theorems about them in specs/OrderTheorems.antt.
-pub mod significand;
-pub mod sqrt;
 
 ghost use mathlib.Core.Path.{_≡_};
 ghost use Rattle.float.specs.Order.{Number};

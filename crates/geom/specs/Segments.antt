@@ -3,7 +3,7 @@ use mathlib.Core.Bool.{cond}
 use lib.Ieee.{Float, lt}
 use Rattle.float.specs.Arithmetic.{_⊕_, _⊖_, _⊗_, _⊘_, zero, one}
 use Rattle.float.specs.Rules.{clamp}
-use Rattle.float.specs.Root.{root}
+use Rattle.sqrt.specs.Root.{root}
 use Rattle.math.specs.declared.Vec3.{Vec3}
 use Rattle.math.specs.Vectors as Vectors
 use Rattle.geom.specs.declared.Point2.{Point2}

@@ -60,7 +60,7 @@ pub fn angle_ok(a: f64, start: f64, stop: f64) -> bool
 fn hypot(a: f64, b: f64) -> f64
     ensures { λ r. ⌜ r ≡ Segments.hypot a b ⌝ }
 {
-    float::sqrt::root(a * a + b * b)
+    sqrt::root(a * a + b * b)
 }
 
 // Where on a segment the nearest point lies, from 0 to 1: `along` is the dot product of the segment

@@ -2,7 +2,7 @@
 use mathlib.Core.Path.{_≡_}
 use lib.Ieee.{Float, binary64}
 use Rattle.float.specs.Order.{Alike, alike-refl, alike-trans, add-alike, sub-alike, mul-alike, min-alike, max-alike, le-alike}
-use Rattle.float.specs.RootTheorem.{root-alike}
+use Rattle.sqrt.specs.RootTheorem.{root-alike}
 use Rattle.math.specs.declared.Vec3.{Vec3}
 use Rattle.math.specs.declared.BoundingBox.{BoundingBox}
 use Rattle.math.specs.Vectors as Vectors

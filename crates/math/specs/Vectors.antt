@@ -11,7 +11,7 @@ use lib.Dec.{eqb}
 use lib.Ieee.{Float, nan}
 use Rattle.float.specs.Arithmetic.{_⊕_, _⊖_, _⊗_}
 use Rattle.float.specs.Rules as Rules
-use Rattle.float.specs.Root as Root
+use Rattle.sqrt.specs.Root as Root
 use Rattle.math.specs.declared.Vec3.{Vec3}
 
 -- the vector of three components

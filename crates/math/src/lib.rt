@@ -97,7 +97,7 @@ impl Vec3 {
     pub fn norm(self) -> f64
         ensures { λ r. ⌜ r ≡ Vectors.norm self ⌝ }
     {
-        float::sqrt::root(self.norm_sq())
+        sqrt::root(self.norm_sq())
     }
 
     pub fn min(self, o: Vec3) -> Vec3

@@ -5,10 +5,10 @@ ghost use mathlib.Core.Path.{_≡_};
 ghost use Prim.Native.Nat.{_*_, _%_, _^_, _≤_};
 ghost use Rattle.float.specs.Rules as Rules;
 ghost use Rattle.float.specs.TotalOrder as TotalOrder;
-ghost use Rattle.float.specs.Guess as Guess;
-ghost use Rattle.float.specs.Root as Root;
+ghost use Rattle.sqrt.specs.Guess as Guess;
+ghost use Rattle.sqrt.specs.Root as Root;
 ghost use mathlib.Core.Logic.{_⊎_};
-use float::significand::Found;
+use sqrt::significand::Found;
 
 #[no_mangle]
 pub extern "C" fn probe_min(a: f64, b: f64) -> f64
@@ -64,7 +64,7 @@ pub extern "C" fn probe_order_key(x: f64) -> u64
 pub extern "C" fn probe_guess(digits: u64, odd: u64) -> f64
     ensures { λ r. ⌜ r ≡ Guess.guess digits odd ⌝ }
 {
-    float::significand::guess(digits, odd)
+    sqrt::significand::guess(digits, odd)
 }
 
 // What the square root makes of a guess: the root, or 0 where it is not found near the guess.
@@ -72,7 +72,7 @@ pub extern "C" fn probe_guess(digits: u64, odd: u64) -> f64
 pub extern "C" fn probe_settle(p: u64, w: u64) -> u64
     ensures { λ r. ⌜ (r ≡ 0) ⊎ (r ≡ Root.nearestRoot (w * 2 ^ 52)) ⌝ }
 {
-    match float::significand::settle(p, w) {
+    match sqrt::significand::settle(p, w) {
         Found::At(q) => q,
         Found::Missed => 0,
     }
@@ -83,7 +83,7 @@ pub extern "C" fn probe_settle(p: u64, w: u64) -> u64
 pub extern "C" fn probe_by_digits(w: u64) -> u64
     ensures { λ r. ⌜ r ≡ Root.nearestRoot (w % 2 ^ 54 * 2 ^ 52) ⌝ }
 {
-    float::significand::by_digits(w)
+    sqrt::significand::by_digits(w)
 }
 
 // Replays the sample of csx's answers on standard input: 0 if all records are equal, else 1.

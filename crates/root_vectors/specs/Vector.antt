@@ -5,7 +5,7 @@ use mathlib.Core.List.{List}
 use lib.Dec.{eqb}
 use lib.ListN.{length, getD, take, drop}
 use lib.Ieee.{Float, binary64, nanBits, isNan, ofBits, toBits}
-use Rattle.float.specs.Root.{root}
+use Rattle.sqrt.specs.Root.{root}
 use Rattle.hex.specs.Hex.{hexNumber}
 use Rattle.hex.specs.declared.Number.{Number}
 use Rattle.hex.specs.declared.Number.the-variants.{Is, Not}

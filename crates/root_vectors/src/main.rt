@@ -1,4 +1,4 @@
-// Compares `float::sqrt::root` with published results, bit for bit: reads the text of the vectors
+// Compares `sqrt::root` with published results, bit for bit: reads the text of the vectors
 // from standard input, and prints how many there are, how many agree, and what could not be read.
 mod tally;
 mod vector;

@@ -25,7 +25,7 @@ fn compared(x: u64, y: u64) -> Verdict
     if is_nan(y) {
         return Verdict::Unreadable;
     }
-    let r = float::sqrt::root(f64::from_bits(x));
+    let r = sqrt::root(f64::from_bits(x));
     if r != r {
         return Verdict::Different(x);
     }

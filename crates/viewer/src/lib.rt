@@ -7,12 +7,12 @@ pub mod shapes;
 pub mod trees;
 
 ghost use mathlib.Core.Path.{_≡_};
-ghost use Rattle.float.specs.Root as Root;
+ghost use Rattle.sqrt.specs.Root as Root;
 
 // The square root: the nearest f64, as IEEE 754 has it.
 #[no_mangle]
 pub extern "C" fn csx_root(x: f64) -> f64
     ensures { λ r. ⌜ r ≡ Root.root x ⌝ }
 {
-    float::sqrt::root(x)
+    sqrt::root(x)
 }

@@ -1,7 +1,7 @@
 -- `probe_settle` meets its contract: a root that `settle` gives is the nearest, and otherwise the answer is 0.
 use mathlib.Core.Path.{refl, subst}
 use mathlib.Core.Logic.{inl, inr}
-use Rattle.float.specs.Steps.{Finds}
+use Rattle.sqrt.specs.Steps.{Finds}
 use borrow.Author.Needs.{needs}
 use Rattle.probes.proofs.probe_settle.Statement.{statement}
 use Rattle.probes.proofs.probe_settle.Tie as tie

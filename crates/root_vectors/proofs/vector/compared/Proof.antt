@@ -5,7 +5,7 @@ use mathlib.Core.Bool.{false}
 use lib.Ieee.{Float, binary64, nanBits, isNan, ofBits, toBits}
 use lib.Ieee.Bits.{is-false}
 use borrow.Author.Tests.{eq-eqb, ne-eqb}
-use Rattle.float.specs.Root.{root}
+use Rattle.sqrt.specs.Root.{root}
 use Rattle.float.specs.Patterns.{is-nan, no-nan}
 use Rattle.root_vectors.specs.Vector.{compared, agreed}
 use borrow.Author.Needs.{needs}
