@@ -21,7 +21,7 @@ use Rattle.bvh.specs.declared.build.Subtree.{Subtree}
 use Rattle.bvh.specs.declared.build.Built.the-variants.{Refused, Nodes}
 use Rattle.tree.specs.Tree.{nodeCount}
 use Rattle.mesh.specs.Items.{Items}
-use Rattle.bvh.specs.Builder.{nodeBox, treeOver, size, boxList, nodeList, itemList, layout}
+use Rattle.builder.specs.Builder.{nodeBox, treeOver, size, boxList, nodeList, itemList, layout}
 
 -- ---- the public entry
 

@@ -27,14 +27,14 @@ use Rattle.bvh.specs.declared.build.Subtree.{Subtree}
 use Rattle.tree.specs.Tree.{nodeCount}
 use Rattle.tree.specs.TreeTest.{triangleCount-accepted}
 use Rattle.mesh.specs.Items.{Items}
-use Rattle.bvh.specs.Node.{items-permuted, items-take, items-drop}
-use Rattle.bvh.specs.Builder.{splitAxis, nodeBox, edges, BoxTree, leafNode, innerNode, treeOver, builderTree, size, boxList, nodeList, itemList, lists, layout}
+use Rattle.median.specs.Node.{items-permuted, items-take, items-drop}
+use Rattle.builder.specs.Builder.{splitAxis, nodeBox, edges, BoxTree, leafNode, innerNode, treeOver, builderTree, size, boxList, nodeList, itemList, lists, layout}
 use Rattle.tree.specs.Numbers.{length-numbers, getD-numbers}
-use Rattle.bvh.specs.BuilderLaws.{treeOver-leaf, treeOver-inner, count-treeOver, length-treeOver, length-boxList, length-nodeList}
-use Rattle.bvh.specs.BuilderSize.{size-le, nodeCount-some, nodeCount-none}
+use Rattle.builder.specs.BuilderLaws.{treeOver-leaf, treeOver-inner, count-treeOver, length-treeOver, length-boxList, length-nodeList}
+use Rattle.builder.specs.BuilderSize.{size-le, nodeCount-some, nodeCount-none}
 use Rattle.bvh.specs.Leaf.{ordered-sorted}
-use Rattle.bvh.specs.Median.{Selected}
-use Rattle.bvh.specs.MedianTheorem.{left-half, right-half}
+use Rattle.median.specs.Median.{Selected}
+use Rattle.median.specs.MedianTheorem.{left-half, right-half}
 use Rattle.bvh.specs.Build.{room, askBuild, verdict, buildAnswer, Builds, Room, Whole, Writes}
 
 -- ---- stores one after another

@@ -3,8 +3,8 @@ use Prim.Native.Nat.{ℕ}
 use mathlib.Core.Path.{_≡_}
 use Rattle.refusal.specs.declared.Verdict.the-variants.{Passed}
 use Rattle.mesh.specs.Mesh.{Mesh}
-use Rattle.bvh.specs.Builder.{layout}
-use Rattle.bvh.specs.BuilderTheorem.{layout-rules}
+use Rattle.builder.specs.Builder.{layout}
+use Rattle.builder.specs.BuilderTheorem.{layout-rules}
 use Rattle.tree.specs.Check.{askRoom, checkAnswer, room-passed, check-accepts}
 
 -- where 1 to 6 refuse nothing, the layout of the builder rule's tree is accepted

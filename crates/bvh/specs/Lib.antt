@@ -1,18 +1,4 @@
--- The definitions of crate `bvh`, and their theorems.
-pub mod Builder
-pub mod BuilderLaws
-pub mod BuilderTheorem
-pub mod BuilderSize
-pub mod Node
-pub mod Extent
-pub mod ExtentZeros
-pub mod ExtentFirst
-pub mod ExtentFolds
-pub mod ExtentLoops
-pub mod ExtentLaws
-pub mod Median
-pub mod MedianLaws
-pub mod MedianTheorem
+-- What the builder promises, and the laws that lead there.
 pub mod Leaf
 pub mod Build
 pub mod BuildLaws

@@ -1,5 +1,3 @@
 // The builder of a mesh's box tree, from csx's bvh.rs. The definitions are in specs/.
 pub mod build;
-pub mod extent;
 pub mod leaf;
-pub mod median;

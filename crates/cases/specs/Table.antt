@@ -16,7 +16,7 @@ use Rattle.primitives.specs.Questions.{shapeAnswer, value}
 use Rattle.mesh.specs.Mesh.{Mesh, mesh}
 use Rattle.edges.specs.Edges.{closed}
 use Rattle.tree.specs.Tree.{nodeCount}
-use Rattle.bvh.specs.Builder.{layout}
+use Rattle.builder.specs.Builder.{layout}
 
 -- a case of the rules
 pub data Case : Type 0 where

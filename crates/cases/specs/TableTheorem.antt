@@ -23,7 +23,7 @@ use Rattle.primitives.specs.Questions.{shapeAnswer, whole, wholeEntries, finite
 use Rattle.keys.specs.Sorting.{count, sortedBy, insertBy}
 use Rattle.edges.specs.Edges.{edgeKey, keysFrom, faceKeys, edgeKeys, twiceIn, closed}
 use Rattle.tree.specs.Tree.{nodeCount}
-use Rattle.bvh.specs.Builder.{layout, lists, builderTree, treeOver, build, size, nodeList, leftItems, rightItems, byCenter, splitAxis, wider, spread, highest, lowest, centerKey, centerOn, centerOf, joinAll, nodeBox, boxList, itemList}
+use Rattle.builder.specs.Builder.{layout, lists, builderTree, treeOver, build, size, nodeList, leftItems, rightItems, byCenter, splitAxis, wider, spread, highest, lowest, centerKey, centerOn, centerOf, joinAll, nodeBox, boxList, itemList}
 use Rattle.mesh.specs.Mesh.{triangleCount, numbers, ownBox}
 use Rattle.mesh.specs.Triangles.{triangles, fans, fan, fanFrom}
 use Rattle.mesh.specs.Faces.{faces, facesFrom}

@@ -21,8 +21,8 @@ use Rattle.bvh.specs.declared.build.Built.{Built}
 use Rattle.bvh.specs.declared.build.Built.the-variants.{Refused, Nodes}
 use Rattle.bvh.specs.Build as Build
 use Rattle.bvh.specs.Build.{room, askBuild}
-use Rattle.bvh.specs.Builder.{layout}
-use Rattle.bvh.specs.BuilderSize.{nodeCount-le}
+use Rattle.builder.specs.Builder.{layout}
+use Rattle.builder.specs.BuilderSize.{nodeCount-le}
 use Rattle.polyhedron.specs.Lists.{askList, listVerdict, answersTo, listAnswer, Contains}
 use Rattle.polyhedron.specs.ListLaws.{length-answersTo, list-passed}
 use Rattle.polyhedron.specs.Demand3Theorem.{demand3}

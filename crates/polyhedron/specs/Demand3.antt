@@ -15,7 +15,7 @@ use Rattle.tree.specs.TreeRules.{TreeRules}
 use Rattle.tree.specs.Check.{askRoom, checkAnswer}
 use Rattle.bvh.specs.declared.build.Built.{Built}
 use Rattle.bvh.specs.declared.build.Built.the-variants.{Nodes}
-use Rattle.bvh.specs.Builder.{layout}
+use Rattle.builder.specs.Builder.{layout}
 use Rattle.bvh.specs.Build as Build
 use Rattle.polyhedron.specs.Lists.{askList, listVerdict, answersTo, listAnswer}
 use Rattle.polyhedron.specs.Rewritten.{Rewritten}

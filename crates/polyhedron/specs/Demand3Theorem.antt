@@ -5,7 +5,7 @@ use Rattle.refusal.specs.Verdicts.{written, then-passed}
 use Rattle.mesh.specs.Accepted.{accepted}
 use Rattle.tree.specs.Check.{check-accepts}
 use Rattle.bvh.specs.Build.{askBuild, buildAnswer}
-use Rattle.bvh.specs.BuilderTheorem.{layout-rules}
+use Rattle.builder.specs.BuilderTheorem.{layout-rules}
 use Rattle.polyhedron.specs.Lists.{listVerdict, answersTo, listAnswer}
 use Rattle.polyhedron.specs.Demand3.{Demand3}
 use Rattle.polyhedron.specs.RewrittenAccepted.{rewritten-accepted}

@@ -14,7 +14,7 @@ use Rattle.mesh.specs.Mesh.{Mesh}
 use Rattle.tree.specs.Tree.{Tree, nodeCount}
 use Rattle.tree.specs.Check.{askRoom, checkAnswer}
 use Rattle.bvh.specs.Build as Build
-use Rattle.bvh.specs.Builder.{layout}
+use Rattle.builder.specs.Builder.{layout}
 use Rattle.weld.specs.Welding as Welding
 use Rattle.polyhedron.specs.Lists.{listVerdict, listAnswer, listWork}
 use Rattle.viewer.specs.Welding as Weld

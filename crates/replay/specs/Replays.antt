@@ -11,7 +11,7 @@ use Rattle.refusal.specs.Verdicts.{returned}
 use Rattle.mesh.specs.Mesh.{Mesh, mesh}
 use Rattle.tree.specs.Tree.{Tree, tree, nodeCount}
 use Rattle.tree.specs.Check.{askRoom, checkAnswer}
-use Rattle.bvh.specs.Builder.{layout}
+use Rattle.builder.specs.Builder.{layout}
 use Rattle.weld.specs.Welding as Welding
 use Rattle.polyhedron.specs.Lists.{listVerdict, listAnswer, listWork}
 use Rattle.viewer.specs.Welding as Weld

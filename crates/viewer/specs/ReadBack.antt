@@ -24,8 +24,8 @@ use Rattle.tree.specs.TreeTest.{treeTest}
 use Rattle.tree.specs.Check.{askRoom, askTree, checkAnswer}
 use Rattle.bvh.specs.Build as Build
 use Rattle.bvh.specs.Build.{askBuild}
-use Rattle.bvh.specs.Builder.{layout}
-use Rattle.bvh.specs.BuilderSize.{nodeCount-le}
+use Rattle.builder.specs.Builder.{layout}
+use Rattle.builder.specs.BuilderSize.{nodeCount-le}
 use Rattle.bvh.specs.BuildLaws.{few-triangles}
 use Rattle.weld.specs.Questions as Weld
 use Rattle.weld.specs.Passed.{whole-passed}

@@ -9,7 +9,7 @@ use Rattle.lent.specs.Over.{over}
 use Rattle.refusal.specs.Verdicts.{returned, written}
 use Rattle.mesh.specs.Mesh.{Mesh}
 use Rattle.tree.specs.Tree.{Tree, nodeCount}
-use Rattle.bvh.specs.Builder.{layout}
+use Rattle.builder.specs.Builder.{layout}
 use Rattle.bvh.specs.Build.{verdict}
 use Rattle.tree.specs.Check.{askRoom, checkAnswer}
 

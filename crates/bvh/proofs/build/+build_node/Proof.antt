@@ -10,7 +10,7 @@ use borrow.Author.Needs.{needs}
 use Rattle.keys.specs.Sorting.{sorted}
 use Rattle.keys.specs.Permutations.{length-permuted}
 use Rattle.mesh.specs.Mesh.{mesh}
-use Rattle.bvh.specs.MedianTheorem.{splitAxis-lt}
+use Rattle.median.specs.MedianTheorem.{splitAxis-lt}
 use Rattle.bvh.specs.BuildLaws.{room-one, left-room, right-room, written-same, written-items, first-bounds, second-bounds, halves-places, small-node, inner-writes}
 use borrow.Fn.Kinds.{In}
 use borrow.Fn.PlainCycle.{Measures, is, falls, and}
@@ -20,9 +20,9 @@ use Rattle.bvh.proofs.build.+build_node.Lts-build_node as build-node-lt
 use Rattle.bvh.proofs.build.build_leaf.Reads as build-leaf-reads
 use Rattle.bvh.proofs.build.put_box.Reads as put-box-reads
 use Rattle.bvh.proofs.build.put_node.Reads as put-node-reads
-use Rattle.bvh.proofs.extent.inner_box.Reads as inner-box-reads
-use Rattle.bvh.proofs.extent.split_of.Reads as split-of-reads
-use Rattle.bvh.proofs.median.halve.Reads as halve-reads
+use Rattle.extent.proofs.inner_box.Reads as inner-box-reads
+use Rattle.extent.proofs.split_of.Reads as split-of-reads
+use Rattle.median.proofs.halve.Reads as halve-reads
 use Rattle.bvh.proofs.build.+build_node.{statement}
 use Rattle.bvh.proofs.build.+build_node.Tie.{close}
 

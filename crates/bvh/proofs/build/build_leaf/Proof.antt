@@ -5,8 +5,8 @@ use borrow.Author.Needs.{needs}
 use Rattle.keys.specs.Sorting.{sorted}
 use Rattle.keys.specs.SortingTheorems.{length-sorted, sorted-permutation}
 use Rattle.mesh.specs.Mesh.{mesh}
-use Rattle.bvh.specs.Node.{items-permuted}
-use Rattle.bvh.specs.Builder.{nodeBox}
+use Rattle.median.specs.Node.{items-permuted}
+use Rattle.builder.specs.Builder.{nodeBox}
 use Rattle.bvh.specs.BuildLaws.{room-one, leaf-writes}
 use Rattle.bvh.proofs.build.build_leaf.Statement.{statement}
 use Rattle.bvh.proofs.build.build_leaf.Tie as tie
