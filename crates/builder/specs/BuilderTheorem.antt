@@ -16,7 +16,8 @@ use Rattle.keys.specs.Sorting.{count}
 use Rattle.keys.specs.SortingTheorems.{le-or-lt, eq-or-ne, all-at}
 use Rattle.math.specs.declared.BoundingBox.{BoundingBox}
 use Rattle.math.specs.Vectors.{at}
-use Rattle.mesh.specs.Accepted.{Accepted, length-triangles}
+use Rattle.mesh_questions.specs.Accepted.{Accepted}
+use Rattle.mesh.specs.Fans.{length-triangles}
 use Rattle.mesh.specs.Mesh.{Mesh, triangleCount, ownBox, numbers}
 use Rattle.math.specs.Boxes.{encloses}
 use Rattle.tree.specs.Tree.{Tree, nodeCount, boxAt, boxOf, startOf, countOf, itemAt}

@@ -13,8 +13,8 @@ use Rattle.refusal.specs.declared.Refusal.the-variants as Refusals
 use Rattle.refusal.specs.declared.Verdict.{Verdict}
 use Rattle.refusal.specs.declared.Verdict.the-variants as Verdicts
 use Rattle.refusal.specs.Verdicts.{ask, then, written}
-use Rattle.mesh.specs.Questions.{askMesh}
-use Rattle.mesh.specs.Accepted.{Accepted}
+use Rattle.mesh_questions.specs.Questions.{askMesh}
+use Rattle.mesh_questions.specs.Accepted.{Accepted}
 use Rattle.mesh.specs.Mesh.{Mesh, triangleCount}
 use Rattle.bvh.specs.declared.build.Built.{Built}
 use Rattle.bvh.specs.declared.build.Subtree.{Subtree}

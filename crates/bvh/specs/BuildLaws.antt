@@ -18,9 +18,9 @@ use Rattle.refusal.specs.declared.Refusal.the-variants as Refusals
 use Rattle.refusal.specs.declared.Verdict.{Verdict}
 use Rattle.refusal.specs.declared.Verdict.the-variants as Verdicts
 use Rattle.refusal.specs.Verdicts.{ask, written, ask-passed, then-passed, both}
-use Rattle.mesh.specs.Questions.{askMesh}
+use Rattle.mesh_questions.specs.Questions.{askMesh}
 use Rattle.mesh.specs.Triangles as Triangles
-use Rattle.mesh.specs.Accepted.{Accepted, accepted}
+use Rattle.mesh_questions.specs.Accepted.{Accepted, accepted}
 use Rattle.mesh.specs.Mesh.{Mesh, triangleCount, numbers}
 use Rattle.bvh.specs.declared.build.Built.the-variants.{Refused, Nodes}
 use Rattle.bvh.specs.declared.build.Subtree.{Subtree}

@@ -13,7 +13,7 @@ use extent::leaf_box;
 use extent::split_of;
 use math::BoundingBox;
 use median::halve;
-use mesh::Asked;
+use mesh_questions::Asked;
 use refusal::Refusal;
 use refusal::Verdict;
 
@@ -180,7 +180,7 @@ pub fn ask_build(
 ) -> Verdict
     ensures { λ r. ⌜ r ≡ Build.askBuild (Mesh.mesh (now (coords .entry)) (now (corners .entry)) (now (ends .entry))) boxes nodes items ⌝ }
 {
-    let asked = mesh::questions::ask_mesh(coords, corners, ends);
+    let asked = mesh_questions::ask_mesh(coords, corners, ends);
     match asked {
         Asked::Refused(refusal) => Verdict::Refused(refusal),
         Asked::Accepted(_) => {

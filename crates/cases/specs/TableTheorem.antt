@@ -26,7 +26,7 @@ use Rattle.tree.specs.Tree.{nodeCount}
 use Rattle.builder.specs.Builder.{layout, lists, builderTree, treeOver, build, size, nodeList, leftItems, rightItems, byCenter, splitAxis, wider, spread, highest, lowest, centerKey, centerOn, centerOf, joinAll, nodeBox, boxList, itemList}
 use Rattle.mesh.specs.Mesh.{triangleCount, numbers, ownBox}
 use Rattle.mesh.specs.Triangles.{triangles, fans, fan, fanFrom}
-use Rattle.mesh.specs.Faces.{faces, facesFrom}
+use Rattle.mesh_questions.specs.Faces.{faces, facesFrom}
 use Rattle.mesh.specs.Boxes.{triangleCenter, triangleBox, vertex}
 use Rattle.math.specs.Boxes as Boxes
 use Rattle.cases.specs.Table.{Row, outcome, table, same, allGive}

@@ -11,7 +11,7 @@ use Rattle.refusal.specs.declared.Refusal.{Refusal}
 use Rattle.refusal.specs.declared.Verdict.{Verdict}
 use Rattle.refusal.specs.declared.Verdict.the-variants.{Passed}
 use Rattle.refusal.specs.Verdicts.{written}
-use Rattle.mesh.specs.Accepted.{accepted}
+use Rattle.mesh_questions.specs.Accepted.{accepted}
 use Rattle.mesh.specs.Mesh.{Mesh, triangleCount}
 use Rattle.tree.specs.Tree.{tree, nodeCount}
 use Rattle.tree.specs.TreeRules.{TreeRules}

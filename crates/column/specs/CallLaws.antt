@@ -17,19 +17,19 @@ use Rattle.refusal.specs.declared.Verdict.the-variants.{Passed, Refused}
 use Rattle.refusal.specs.Verdicts.{written}
 use Rattle.math.specs.Vectors.{points}
 use Rattle.mesh.specs.Mesh.{Mesh}
-use Rattle.mesh.specs.Questions.{askMesh, askFinite}
+use Rattle.mesh_questions.specs.Questions.{askMesh, askFinite}
 use Rattle.polyhedron.specs.Lists.{listFits, askPoints, askList, answersTo}
 use Rattle.polyhedron.specs.ListLaws.{length-answersTo}
-use Rattle.text.specs.declared.fields.Field.{Field}
-use Rattle.text.specs.declared.lines.Kind.{Kind}
-use Rattle.text.specs.declared.lines.Kind.the-variants as Kinds
-use Rattle.text.specs.declared.lines.Counts.{Counts}
-use Rattle.text.specs.declared.lines.Judged.the-variants.{BadLine, Good}
+use Rattle.fields.specs.declared.Field.{Field}
+use Rattle.text.specs.declared.Kind.{Kind}
+use Rattle.text.specs.declared.Kind.the-variants as Kinds
+use Rattle.text.specs.declared.Counts.{Counts}
+use Rattle.text.specs.declared.Judged.the-variants.{BadLine, Good}
 use Rattle.text.specs.Lines.{isCount, isCorner, allThree, kindOf, linesIn, lines}
 use Rattle.text.specs.LineLaws.{lineAt, length-lines, lines-take, lines-drop, section-line}
 use Rattle.text.specs.Accepted.{Accepted, accepted, isGood, numbersFit, good-line}
-use Rattle.text.specs.Listing.{listingText, listingLength}
-use Rattle.text.specs.ListingLaws.{length-listing}
+use Rattle.listing.specs.Listing.{listingText, listingLength}
+use Rattle.listing.specs.ListingLaws.{length-listing}
 use Rattle.column.specs.declared.Listed.{Listed}
 use Rattle.column.specs.declared.Listed.the-variants as Answers
 use Rattle.column.specs.Column.{floatOf, cornerOf, numbersOf, endsFrom, meshOf, pointsOf, askColumn, columnVerdict, columnListing, judged, verdict, columnAnswer, listed, Lists}

@@ -12,15 +12,15 @@ use Rattle.refusal.specs.declared.Refusal.the-variants as Refusals
 use Rattle.refusal.specs.declared.Verdict.{Verdict}
 use Rattle.refusal.specs.declared.Verdict.the-variants.{Passed, Refused}
 use Rattle.refusal.specs.Verdicts.{ask, then, written}
-use Rattle.text.specs.declared.fields.Field.{Field}
-use Rattle.text.specs.declared.fields.Field.the-variants.{Bad, Number}
-use Rattle.text.specs.declared.lines.Counts.{Counts}
-use Rattle.text.specs.declared.lines.Judged.{Judged}
-use Rattle.text.specs.declared.lines.Judged.the-variants.{BadLine, Good}
+use Rattle.fields.specs.declared.Field.{Field}
+use Rattle.fields.specs.declared.Field.the-variants.{Bad, Number}
+use Rattle.text.specs.declared.Counts.{Counts}
+use Rattle.text.specs.declared.Judged.{Judged}
+use Rattle.text.specs.declared.Judged.the-variants.{BadLine, Good}
 use Rattle.text.specs.Lines.{numberAt, none, lines, judge}
-use Rattle.text.specs.Listing.{listingText, listingLength}
+use Rattle.listing.specs.Listing.{listingText, listingLength}
 use Rattle.mesh.specs.Mesh.{Mesh, mesh}
-use Rattle.mesh.specs.Questions.{askMesh}
+use Rattle.mesh_questions.specs.Questions.{askMesh}
 use Rattle.polyhedron.specs.Lists.{answersTo}
 use Rattle.column.specs.declared.Listed.{Listed}
 use Rattle.column.specs.declared.Listed.the-variants as Answers

@@ -16,11 +16,11 @@ use Rattle.math.specs.Vectors as Vectors
 use Rattle.math.specs.Vectors.{points}
 use Rattle.refusal.specs.declared.Refusal.{Refusal}
 use Rattle.refusal.specs.declared.Verdict.the-variants.{Passed}
-use Rattle.mesh.specs.Questions.{askFinite}
+use Rattle.mesh_questions.specs.Questions.{askFinite}
 use Rattle.lent.specs.ReorderedLaws.{Every, every-at}
 use Rattle.lent.specs.Over.{over, over-behind, over-three, over-next, length-over}
-use Rattle.text.specs.declared.fields.Field.{Field}
-use Rattle.text.specs.declared.fields.Field.the-variants.{Bad, Number}
+use Rattle.fields.specs.declared.Field.{Field}
+use Rattle.fields.specs.declared.Field.the-variants.{Bad, Number}
 use Rattle.text.specs.Lines.{numberAt, lines, isCount, allThree}
 use Rattle.text.specs.LineLaws.{lineAt, lines-next, length-lines, lines-get}
 use Rattle.text.specs.Accepted.{three}

@@ -9,12 +9,12 @@ use Rattle.lent.specs.Over.{over}
 use Rattle.refusal.specs.declared.Verdict.the-variants.{Passed}
 use Rattle.refusal.specs.Verdicts.{written}
 use Rattle.mesh.specs.Mesh.{Mesh}
-use Rattle.mesh.specs.Questions.{askMesh}
+use Rattle.mesh_questions.specs.Questions.{askMesh}
 use Rattle.polyhedron.specs.Lists.{askList, answersTo}
-use Rattle.text.specs.declared.fields.Field.{Field}
+use Rattle.fields.specs.declared.Field.{Field}
 use Rattle.text.specs.Lines.{allThree}
 use Rattle.text.specs.LineLaws.{lineAt}
-use Rattle.text.specs.Listing.{listingText, listingLength}
+use Rattle.listing.specs.Listing.{listingText, listingLength}
 use Rattle.column.specs.declared.Listed.{Listed}
 use Rattle.column.specs.Column.{askColumn, listed}
 

@@ -5,13 +5,13 @@ pub mod numbers;
 ghost use mathlib.Core.Path.{_≡_};
 ghost use lib.ListN.{length};
 ghost use Rattle.mesh.specs.Mesh as Mesh;
-ghost use Rattle.text.specs.declared.lines.Judged.the-variants as Judgements;
+ghost use Rattle.text.specs.declared.Judged.the-variants as Judgements;
 ghost use Rattle.column.specs.Column as Column;
 ghost use Rattle.column.specs.Sections as Sections;
-use mesh::Asked;
+use mesh_questions::Asked;
 use refusal::Refusal;
-use text::lines::Counts;
-use text::lines::Judged;
+use text::Counts;
+use text::Judged;
 
 // How many bytes of a listing were written, or why none were.
 pub enum Listed {
@@ -31,7 +31,7 @@ fn list_answers(
     requires { ⌜ Sections.Few (Mesh.mesh (now coords) (now corners) (now ends)) (now points) (length (now answers)) ⌝ }
     ensures { λ r. ⌜ Sections.ListsAnswers (Mesh.mesh (now (coords .entry)) (now (corners .entry)) (now (ends .entry))) (now (points .entry)) (length (now (answers .entry))) (now (listing .entry)) r (now (listing .exit)) ⌝ }
 {
-    let asked = mesh::questions::ask_mesh(coords, corners, ends);
+    let asked = mesh_questions::ask_mesh(coords, corners, ends);
     if let Asked::Refused(refusal) = asked {
         return Listed::Refused(refusal);
     }
@@ -40,7 +40,7 @@ fn list_answers(
         return Listed::Refused(Refusal::Room);
     }
     answers::answer_points(coords, corners, ends, points, answers);
-    text::listing::write_listing(answers, listing);
+    listing::write_listing(answers, listing);
     Listed::Bytes(bytes)
 }
 
@@ -102,7 +102,7 @@ fn list_good(text: &[u8], counts: Counts, listing: &mut [u8]) -> Listed
 pub fn point_list(text: &[u8], listing: &mut [u8]) -> Listed
     ensures { λ r. ⌜ Column.Lists (now (text .entry)) (now (listing .entry)) r (now (listing .exit)) ⌝ }
 {
-    let judged = text::lines::judge_text(text, 1);
+    let judged = text::judge_text(text, 1);
     match judged {
         Judged::BadLine(line) => Listed::Refused(Refusal::Line(line)),
         Judged::Good(counts) => list_good(text, counts, listing),

@@ -10,10 +10,10 @@ ghost use Rattle.mesh.specs.Triangles.{triangle};
 ghost use Rattle.text.specs.Lines as Lines;
 ghost use Rattle.column.specs.Column as Column;
 ghost use Rattle.column.specs.Sections as Sections;
+use fields::Field;
 use math::Vec3;
 use mesh::Triangle;
-use text::fields::Field;
-use text::lines::number_at;
+use text::number_at;
 
 // A count of nanometres as a float.
 fn float_of(field: Field) -> f64

@@ -13,10 +13,10 @@ use lib.Seq.{drop-cons}
 use borrow.Author.Tests.{leb-true}
 use Rattle.refusal.specs.Verdicts.{both}
 use Rattle.lent.specs.Over.{over, over-nothing, over-take, over-on, length-over}
-use Rattle.mesh.specs.Faces.{faces, facesFrom}
-use Rattle.mesh.specs.Questions.{endsFit}
+use Rattle.mesh_questions.specs.Faces.{faces, facesFrom}
+use Rattle.mesh_questions.specs.Questions.{endsFit}
 use Rattle.edges.specs.Edges.{edgeKey, keysFrom, faceKeys, edgeKeys}
-use Rattle.mesh.specs.Walks.{endsFit-le}
+use Rattle.mesh_questions.specs.QuestionLaws.{endsFit-le}
 use Rattle.edges.specs.EdgeLaws.{keysFrom-at, length-keysFrom, length-faceKeys}
 
 -- ---- corner by corner

@@ -15,9 +15,9 @@ use Rattle.refusal.specs.Verdicts.{both}
 use Rattle.keys.specs.Sorting.{All, Small}
 use Rattle.keys.specs.SortingTheorems.{le-or-lt, eq-or-ne, all-at, all-of}
 use Rattle.keys.specs.Permutations.{all-append, all-split}
-use Rattle.mesh.specs.Faces.{faces, facesFrom}
-use Rattle.mesh.specs.Questions.{endsFit}
-use Rattle.mesh.specs.Accepted.{Accepted}
+use Rattle.mesh_questions.specs.Faces.{faces, facesFrom}
+use Rattle.mesh_questions.specs.Questions.{endsFit}
+use Rattle.mesh_questions.specs.Accepted.{Accepted}
 use Rattle.edges.specs.Edges.{edgeKey, keysFrom, faceKeys, edgeKeys}
 use Rattle.edges.specs.Below.{Below}
 

@@ -12,8 +12,8 @@ use borrow.Author.Tests.{lt-ltb, eq-eqb, ne-eqb, eqb-true}
 use Rattle.keys.specs.Sorting.{insertBy, sortedBy, sorted, count, Permutation, All, AscendingBy, Ascending}
 use Rattle.keys.specs.SortingTheorems.{le-or-lt, eq-or-ne, insert-here, insert-past, all-map, count-cons, length-sorted, sorted-ascending, sorted-permutation}
 use Rattle.lent.specs.Over.{over, take-over}
-use Rattle.mesh.specs.Faces.{faces, length-faces}
-use Rattle.mesh.specs.Questions.{endsFit}
+use Rattle.mesh_questions.specs.Faces.{faces, length-faces}
+use Rattle.mesh_questions.specs.Questions.{endsFit}
 use Rattle.edges.specs.Edges.{edgeKeys, twiceIn, closed}
 use Rattle.edges.specs.EdgeLaws.{length-edgeKeys}
 use Rattle.edges.specs.Pairs.{startsWith, inPairs, closedKeys}

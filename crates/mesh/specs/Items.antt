@@ -3,7 +3,7 @@ use Prim.Native.Nat.{ℕ, _-_, _*_, _<_}
 use mathlib.Core.Path.{_≡_}
 use mathlib.Core.List.{List}
 use lib.ListN.{length, getD}
-use Rattle.mesh.specs.Accepted.{Accepted}
+use Rattle.mesh_questions.specs.Accepted.{Accepted}
 use Rattle.mesh.specs.Triangles as Triangles
 use Rattle.mesh.specs.Mesh.{Mesh}
 

@@ -1,9 +1,6 @@
 -- The definitions of crate `mesh`, and the laws that other crates cite.
-pub mod Faces
 pub mod Triangles
-pub mod Questions
-pub mod Walks
-pub mod Accepted
+pub mod Fans
 pub mod TriangleLaws
 pub mod Boxes
 pub mod Mesh

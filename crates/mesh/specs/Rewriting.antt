@@ -10,10 +10,11 @@ use Rattle.math.specs.declared.Vec3.{Vec3}
 use Rattle.lent.specs.Reordered.{Reordered, none, keep, exchange, twice}
 use Rattle.lent.specs.ReorderedLaws.{reordered-behind, reordered-exchange}
 use Rattle.mesh.specs.declared.Triangle.{Triangle}
-use Rattle.mesh.specs.Faces.{faces}
+use Rattle.mesh_questions.specs.Faces.{faces}
 use Rattle.mesh.specs.Triangles.{triangle, fanFrom, fan, fans, triangles}
 use Rattle.mesh.specs.Boxes.{vertex, Corners}
-use Rattle.mesh.specs.Accepted.{Accepted, length-triangles}
+use Rattle.mesh_questions.specs.Accepted.{Accepted}
+use Rattle.mesh.specs.Fans.{length-triangles}
 use Rattle.mesh.specs.Corners.{triangle-corners}
 
 -- the triangles of reordered faces are the triangles in some order

@@ -12,11 +12,12 @@ use lib.Seq.{drop-cons, getD-take, getD-drop, getD-append-add}
 use borrow.Author.Tests.{eqb-true}
 use Rattle.refusal.specs.Verdicts.{both}
 use Rattle.mesh.specs.declared.Triangle.{Triangle}
-use Rattle.mesh.specs.Faces.{faces, facesFrom}
+use Rattle.mesh_questions.specs.Faces.{faces, facesFrom}
 use Rattle.mesh.specs.Triangles.{triangle, fanFrom, fan, fans, triangles, startFrom, equalFaces, sides, InFace, Placed}
-use Rattle.mesh.specs.Questions.{endsFit}
-use Rattle.mesh.specs.Walks.{endsFit-le}
-use Rattle.mesh.specs.Accepted.{Wide, Fanned, length-fan, length-fans}
+use Rattle.mesh_questions.specs.Questions.{endsFit}
+use Rattle.mesh_questions.specs.QuestionLaws.{endsFit-le}
+use Rattle.mesh_questions.specs.Accepted.{Wide, Fanned}
+use Rattle.mesh.specs.Fans.{length-fan, length-fans}
 
 -- triangle k of a fan from corner a
 fanFrom-at : (a : ℕ) (l : List ℕ) (k : ℕ) (d : Triangle) → k + 1 < length l → getD (fanFrom a l) k d ≡ triangle a (getD l k 0) (getD l (k + 1) 0)

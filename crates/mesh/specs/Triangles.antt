@@ -6,7 +6,7 @@ use mathlib.Core.List.{List, [], _∷_, _++_}
 use lib.Dec.{eqb}
 use lib.ListN.{length, getD}
 use Rattle.mesh.specs.declared.Triangle.{Triangle}
-use Rattle.mesh.specs.Faces.{faces}
+use Rattle.mesh_questions.specs.Faces.{faces}
 
 -- the triangle of three vertex numbers
 abbrev pub triangle : ℕ → ℕ → ℕ → Triangle

@@ -5,7 +5,7 @@ ghost use Prim.Native.Nat.{_+_, _-_, _*_, _<_};
 ghost use lib.ListN.{length};
 ghost use Rattle.float.specs.Order.{Number};
 ghost use Rattle.math.specs.Vectors.{component};
-ghost use Rattle.mesh.specs.Accepted.{Accepted};
+ghost use Rattle.mesh_questions.specs.Accepted.{Accepted};
 ghost use Rattle.mesh.specs.Boxes as Boxes;
 ghost use Rattle.mesh.specs.Centers as Centers;
 ghost use Rattle.mesh.specs.Mesh as Mesh;

@@ -3,7 +3,7 @@ ghost use mathlib.Core.Path.{_≡_};
 ghost use Prim.Native.Nat.{_+_, _-_, _*_, _≤_, _<_};
 ghost use lib.ListN.{length, getD};
 ghost use Rattle.mesh.specs.Triangles as Triangles;
-ghost use Rattle.mesh.specs.Accepted.{Fanned};
+ghost use Rattle.mesh_questions.specs.Accepted.{Fanned};
 use crate::Triangle;
 
 // Whether every face has this many corners.

@@ -9,7 +9,7 @@ use Rattle.lent.specs.Over.{over}
 use Rattle.refusal.specs.declared.Verdict.{Verdict}
 use Rattle.refusal.specs.declared.Verdict.the-variants.{Passed, Refused}
 use Rattle.refusal.specs.Numbers.{number, place}
-use Rattle.text.specs.Listing.{header}
+use Rattle.listing.specs.Listing.{header}
 use Rattle.column.specs.Column.{verdict, columnAnswer}
 
 -- the listing unless a question refuses, else the refusal's header

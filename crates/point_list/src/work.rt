@@ -12,7 +12,7 @@ pub fn listing_of(text: &[u8], listing: &mut [u8]) -> usize
     }
     match column::point_list(text, listing) {
         Listed::Refused(refusal) => {
-            text::listing::write_header(refusal.number(), refusal.place() as u64, listing);
+            listing::write_header(refusal.number(), refusal.place() as u64, listing);
             10
         }
         Listed::Bytes(bytes) => bytes,

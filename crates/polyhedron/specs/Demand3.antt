@@ -8,7 +8,7 @@ use lib.Ieee.{Float, nan, binary64, fits}
 use lib.ListN.{length, getD}
 use Rattle.lent.specs.Over.{over}
 use Rattle.refusal.specs.declared.Verdict.the-variants.{Passed}
-use Rattle.mesh.specs.Questions.{askMesh}
+use Rattle.mesh_questions.specs.Questions.{askMesh}
 use Rattle.mesh.specs.Mesh.{Mesh}
 use Rattle.tree.specs.Tree.{Tree, nodeCount}
 use Rattle.tree.specs.TreeRules.{TreeRules}

@@ -2,7 +2,7 @@
 -- scan's of each point. (b) is the tree check's theorem. (c) Where no question refuses, what the builder promises is the layout, which keeps the tree rules.
 use mathlib.Core.Path.{fun-ext}
 use Rattle.refusal.specs.Verdicts.{written, then-passed}
-use Rattle.mesh.specs.Accepted.{accepted}
+use Rattle.mesh_questions.specs.Accepted.{accepted}
 use Rattle.tree.specs.Check.{check-accepts}
 use Rattle.bvh.specs.Build.{askBuild, buildAnswer}
 use Rattle.builder.specs.BuilderTheorem.{layout-rules}

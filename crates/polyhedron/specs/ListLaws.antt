@@ -18,8 +18,8 @@ use Rattle.refusal.specs.declared.Verdict.the-variants.{Passed, Refused}
 use Rattle.refusal.specs.Verdicts.{written, ask-passed, then-passed, both}
 use Rattle.math.specs.declared.Vec3.{Vec3}
 use Rattle.math.specs.Vectors.{vec, at, points, isFinite, length-points, getD-points}
-use Rattle.mesh.specs.Faces.{faces}
-use Rattle.mesh.specs.Accepted.{Accepted, finite-of}
+use Rattle.mesh_questions.specs.Faces.{faces}
+use Rattle.mesh_questions.specs.Accepted.{Accepted, finite-of}
 use Rattle.mesh.specs.Mesh.{Mesh}
 use Rattle.edges.specs.Edges.{edgeKeys, closed}
 use Rattle.edges.specs.PairLaws.{length-sortedKeys}
@@ -27,8 +27,8 @@ use Rattle.tree.specs.Tree.{Tree}
 use Rattle.tree.specs.Check as Check
 use Rattle.tree.specs.Check.{askRoom, askTree, checkAnswer, room-passed, check-accepts}
 use Rattle.scan.specs.Scan.{plainScan}
-use Rattle.walks.specs.declared.points.Prepared.{Prepared}
-use Rattle.walks.specs.Walks.{prepared}
+use Rattle.points.specs.declared.Prepared.{Prepared}
+use Rattle.points.specs.Points.{prepared}
 use Rattle.polyhedron.specs.Lists.{listFits, askPoints, askList, listVerdict, answersTo, listAnswer, keysLeft, listWork, Contains, Answerable}
 
 -- ---- the answers

@@ -14,15 +14,15 @@ use Rattle.refusal.specs.declared.Verdict.{Verdict}
 use Rattle.refusal.specs.declared.Verdict.the-variants.{Passed, Refused}
 use Rattle.refusal.specs.Verdicts.{ask, then, written}
 use Rattle.math.specs.Vectors.{at, points}
-use Rattle.mesh.specs.Faces.{faces}
-use Rattle.mesh.specs.Questions.{askFinite}
+use Rattle.mesh_questions.specs.Faces.{faces}
+use Rattle.mesh_questions.specs.Questions.{askFinite}
 use Rattle.mesh.specs.Mesh.{Mesh}
 use Rattle.edges.specs.Edges.{edgeKeys}
 use Rattle.tree.specs.Tree.{Tree}
 use Rattle.tree.specs.Check.{askRoom, checkAnswer}
 use Rattle.scan.specs.Scan.{plainScan}
-use Rattle.walks.specs.declared.points.Prepared.{Prepared}
-use Rattle.walks.specs.Walks.{Asked}
+use Rattle.points.specs.declared.Prepared.{Prepared}
+use Rattle.points.specs.Points.{Asked}
 
 -- question 8: is the point list a multiple of 3, of at most 65,536 points, and the answer list a third as long?
 unfoldable pub listFits : ℕ → ℕ → Bool

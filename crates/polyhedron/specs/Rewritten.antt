@@ -5,7 +5,7 @@ use mathlib.Core.Path.{_≡_}
 use mathlib.Core.List.{List, [], _∷_, map, flatten}
 use lib.ListN.{length}
 use Rattle.lent.specs.Reordered.{Reordered}
-use Rattle.mesh.specs.Faces.{faces}
+use Rattle.mesh_questions.specs.Faces.{faces}
 use Rattle.mesh.specs.Boxes.{vertex}
 use Rattle.mesh.specs.Mesh.{Mesh}
 

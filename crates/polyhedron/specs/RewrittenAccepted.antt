@@ -16,9 +16,9 @@ use Rattle.refusal.specs.declared.Verdict.the-variants.{Passed}
 use Rattle.refusal.specs.Verdicts.{ask-passed, then-passed, both}
 use Rattle.math.specs.declared.Vec3.{Vec3}
 use Rattle.math.specs.Vectors.{points, isFinite}
-use Rattle.mesh.specs.Faces.{faces, length-faces}
-use Rattle.mesh.specs.Questions.{wholeVertices, endsFit, facesFit, askLengths, allBelow, askFace, askFaces, askFinite, askVertices, askParts, askMesh}
-use Rattle.mesh.specs.Accepted.{Accepted, accepted}
+use Rattle.mesh_questions.specs.Faces.{faces, length-faces}
+use Rattle.mesh_questions.specs.Questions.{wholeVertices, endsFit, facesFit, askLengths, allBelow, askFace, askFaces, askFinite, askVertices, askParts, askMesh}
+use Rattle.mesh_questions.specs.Accepted.{Accepted, accepted}
 use Rattle.mesh.specs.Mesh.{Mesh}
 use Rattle.edges.specs.EdgeLaws.{flatten-faces}
 use Rattle.polyhedron.specs.Rewritten.{vertexCount, endsOf, Rewritten}

@@ -11,7 +11,7 @@ use Rattle.lent.specs.Reordered.{Reordered}
 use Rattle.lent.specs.ReorderedLaws.{map-reordered}
 use Rattle.math.specs.declared.Vec3.{Vec3}
 use Rattle.math.specs.Vectors.{vec, points, length-points, getD-points}
-use Rattle.mesh.specs.Faces.{facesFrom, faces}
+use Rattle.mesh_questions.specs.Faces.{facesFrom, faces}
 use Rattle.mesh.specs.Boxes.{vertex}
 use Rattle.mesh.specs.Mesh.{Mesh, numbers}
 use Rattle.polyhedron.specs.Rewritten.{vertexCount, endsOf, Rewritten}

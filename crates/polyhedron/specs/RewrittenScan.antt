@@ -15,11 +15,11 @@ use Rattle.lent.specs.ReorderedLaws.{map-reordered, every-at, tally, tally-reor
 use Rattle.math.specs.declared.Vec3.{Vec3}
 use Rattle.math.specs.Vectors.{vec, at, sub, norm, isFinite, points, length-points, getD-points}
 use Rattle.math.specs.Boxes.{empty}
-use Rattle.mesh.specs.Faces.{faces}
+use Rattle.mesh_questions.specs.Faces.{faces}
 use Rattle.mesh.specs.Triangles.{triangle, triangles}
 use Rattle.mesh.specs.Boxes.{vertex, triangleBox, includeAll, meshBox, surfaceEps, prepare}
 use Rattle.mesh.specs.Mesh.{Mesh, triangleCount, triangleAt, ownBox, allTriangles}
-use Rattle.mesh.specs.Accepted.{Accepted, accepted}
+use Rattle.mesh_questions.specs.Accepted.{Accepted, accepted}
 use Rattle.mesh.specs.Centers.{number-on}
 use Rattle.mesh.specs.Rewriting.{fans-reordered, cornerPoints, points-renumbered}
 use Rattle.mesh.specs.PermutedBoxes.{F64, F64Vec, AllF64, meshBox-reordered, surfaceEps-alike, grown-contains}

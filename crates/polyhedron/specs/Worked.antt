@@ -11,9 +11,9 @@ use Rattle.float.specs.Arithmetic.{zero, one}
 use Rattle.float.specs.Rules as Rules
 use Rattle.lent.specs.ReorderedLaws.{reordered-exchange}
 use Rattle.math.specs.Vectors as Vectors
-use Rattle.mesh.specs.Faces.{facesFrom, faces}
+use Rattle.mesh_questions.specs.Faces.{facesFrom, faces}
 use Rattle.mesh.specs.Boxes.{vertex}
-use Rattle.mesh.specs.Questions.{wholeVertices, endsFit, facesFit, askLengths, allBelow, askFace, askFaces, askFinite, askParts, askMesh}
+use Rattle.mesh_questions.specs.Questions.{wholeVertices, endsFit, facesFit, askLengths, allBelow, askFace, askFaces, askFinite, askParts, askMesh}
 use Rattle.mesh.specs.Mesh.{Mesh, mesh}
 use Rattle.polyhedron.specs.Rewritten.{endsOf, Rewritten}
 use Rattle.polyhedron.specs.Demand3.{Accepts, F64s}

@@ -6,11 +6,11 @@ ghost use Rattle.mesh.specs.Mesh as Mesh;
 ghost use Rattle.tree.specs.Tree as Tree;
 ghost use Rattle.polyhedron.specs.Lists as Lists;
 use math::Vec3;
-use mesh::questions::first_not_finite;
+use mesh_questions::first_not_finite;
+use points::Prepared;
+use points::point_answer;
 use refusal::Refusal;
 use refusal::Verdict;
-use walks::points::Prepared;
-use walks::points::point_answer;
 
 // Question 8: is the point list a multiple of 3, of at most 65,536 points, and the answer list a third as long?
 fn list_fits(numbers: usize, places: usize) -> bool
@@ -88,7 +88,7 @@ pub fn contains_list(
         return Verdict::Refused(refusal);
     }
     let closed = edges::keys_closed(corners, ends, work);
-    let prepared = walks::points::prepare(coords, ends, closed);
+    let prepared = points::prepare(coords, ends, closed);
     answer_points(
         coords,
         corners,

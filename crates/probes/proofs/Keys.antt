@@ -4,7 +4,7 @@ use mathlib.Core.Path.{_≡_}
 use mathlib.Core.Bool.{true}
 use mathlib.Core.List.{List}
 use lib.ListN.{length}
-use Rattle.mesh.specs.Questions.{endsFit}
+use Rattle.mesh_questions.specs.Questions.{endsFit}
 use Rattle.edges.specs.PairLaws.{length-sortedKeys}
 use Rattle.probes.specs.Meshes.{keys}
 

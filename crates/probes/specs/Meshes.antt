@@ -13,7 +13,7 @@ use Rattle.refusal.specs.declared.Refusal.the-variants.{Room}
 use Rattle.refusal.specs.declared.Verdict.{Verdict}
 use Rattle.refusal.specs.Verdicts.{ask, then, returned, written}
 use Rattle.mesh.specs.declared.Triangle.{Triangle}
-use Rattle.mesh.specs.Faces as Faces
+use Rattle.mesh_questions.specs.Faces as Faces
 use Rattle.mesh.specs.Triangles as Triangles
 use Rattle.mesh.specs.Boxes.{triangleBox, triangleCenter, meshBox, prepare}
 use Rattle.edges.specs.Edges as Edges

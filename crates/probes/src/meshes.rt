@@ -8,8 +8,8 @@ ghost use Prim.Native.Nat.{_+_, _-_, _*_, _≤_, _<_};
 ghost use lib.ListN.{length};
 ghost use lib.Seq.{sets};
 ghost use Rattle.lent.specs.Over.{over};
-ghost use Rattle.mesh.specs.Questions.{endsFit, askMesh};
-ghost use Rattle.mesh.specs.Accepted.{Accepted, Fanned};
+ghost use Rattle.mesh_questions.specs.Questions.{endsFit, askMesh};
+ghost use Rattle.mesh_questions.specs.Accepted.{Accepted, Fanned};
 ghost use Rattle.mesh.specs.Boxes.{Corners};
 ghost use Rattle.mesh.specs.Triangles as Triangles;
 ghost use Rattle.edges.specs.Below.{Below};
@@ -17,8 +17,8 @@ ghost use Rattle.weld.specs.Welding.{numbers};
 ghost use Rattle.probes.specs.Meshes as Meshes;
 use math::BoundingBox;
 use math::Vec3;
-use mesh::Asked;
 use mesh::Triangle;
+use mesh_questions::Asked;
 use refusal::Refusal;
 
 // Writes the counts of vertices, faces and triangles.
@@ -31,7 +31,7 @@ pub extern "C" fn probe_mesh(
 ) -> u64
     ensures { λ r. ⌜ Meshes.Writes (askMesh (now (coords .entry)) (now (corners .entry)) (now (ends .entry))) 0 (Meshes.counts (now (coords .entry)) (now (corners .entry)) (now (ends .entry))) (now (counts .entry)) r (now (counts .exit)) ⌝ }
 {
-    let asked = mesh::questions::ask_mesh(coords, corners, ends);
+    let asked = mesh_questions::ask_mesh(coords, corners, ends);
     match asked {
         Asked::Refused(refusal) => refusal.code(),
         Asked::Accepted(found) => {
@@ -85,7 +85,7 @@ pub extern "C" fn probe_triangles(
 ) -> u64
     ensures { λ r. ⌜ Meshes.Writes (askMesh (now (coords .entry)) (now (corners .entry)) (now (ends .entry))) 0 (Meshes.triangles (now (corners .entry)) (now (ends .entry))) (now (out .entry)) r (now (out .exit)) ⌝ }
 {
-    let asked = mesh::questions::ask_mesh(coords, corners, ends);
+    let asked = mesh_questions::ask_mesh(coords, corners, ends);
     match asked {
         Asked::Refused(refusal) => refusal.code(),
         Asked::Accepted(found) => {
@@ -164,7 +164,7 @@ pub extern "C" fn probe_mesh_boxes(
 ) -> u64
     ensures { λ r. ⌜ Meshes.Writes (askMesh (now (coords .entry)) (now (corners .entry)) (now (ends .entry))) 0 (Meshes.boxes (now (coords .entry)) (now (corners .entry)) (now (ends .entry))) (now (out .entry)) r (now (out .exit)) ⌝ }
 {
-    let asked = mesh::questions::ask_mesh(coords, corners, ends);
+    let asked = mesh_questions::ask_mesh(coords, corners, ends);
     match asked {
         Asked::Refused(refusal) => refusal.code(),
         Asked::Accepted(found) => {
@@ -203,7 +203,7 @@ pub extern "C" fn probe_edge_keys(
 ) -> u64
     ensures { λ r. ⌜ Meshes.Writes (askMesh (now (coords .entry)) (now (corners .entry)) (now (ends .entry))) (Meshes.closed (now (corners .entry)) (now (ends .entry))) (Meshes.keys (now (corners .entry)) (now (ends .entry))) (now (work .entry)) r (now (work .exit)) ⌝ }
 {
-    let asked = mesh::questions::ask_mesh(coords, corners, ends);
+    let asked = mesh_questions::ask_mesh(coords, corners, ends);
     match asked {
         Asked::Refused(refusal) => refusal.code(),
         Asked::Accepted(_) => {
@@ -227,7 +227,7 @@ pub extern "C" fn probe_prepare(
 ) -> u64
     ensures { λ r. ⌜ Meshes.WritesTwo (askMesh (now (coords .entry)) (now (corners .entry)) (now (ends .entry))) (Meshes.closed (now (corners .entry)) (now (ends .entry))) (Meshes.keys (now (corners .entry)) (now (ends .entry))) (now (work .entry)) (Meshes.prepared (now (coords .entry))) (now (out .entry)) r (now (work .exit)) (now (out .exit)) ⌝ }
 {
-    let asked = mesh::questions::ask_mesh(coords, corners, ends);
+    let asked = mesh_questions::ask_mesh(coords, corners, ends);
     match asked {
         Asked::Refused(refusal) => refusal.code(),
         Asked::Accepted(_) => {

@@ -11,7 +11,7 @@ use Rattle.math.specs.declared.BoundingBox.{BoundingBox}
 use Rattle.math.specs.Vectors.{vec, sub, norm}
 use Rattle.math.specs.Boxes.{contains, expanded}
 use Rattle.mesh.specs.declared.Triangle.{Triangle}
-use Rattle.mesh.specs.Faces.{faces}
+use Rattle.mesh_questions.specs.Faces.{faces}
 use Rattle.mesh.specs.Boxes.{vertex, prepare}
 use Rattle.mesh.specs.Mesh.{Mesh, triangleAt, ownBox, allTriangles}
 use Rattle.edges.specs.Edges.{closed}

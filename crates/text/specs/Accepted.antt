@@ -9,14 +9,14 @@ use lib.ListN.{length, getD, take, drop, length-drop, length-take}
 use lib.Seq.{drop-drop}
 use borrow.Author.Tests.{ltb-true, eqb-true}
 use Rattle.refusal.specs.Verdicts.{both}
-use Rattle.text.specs.declared.fields.Field.{Field}
-use Rattle.text.specs.declared.lines.Kind.{Kind}
-use Rattle.text.specs.declared.lines.Kind.the-variants as Kinds
-use Rattle.text.specs.declared.lines.Counts.{Counts}
-use Rattle.text.specs.declared.lines.Judged.{Judged}
-use Rattle.text.specs.declared.lines.Judged.the-variants.{BadLine, Good}
-use Rattle.text.specs.Fields.{fieldOf}
-use Rattle.text.specs.Lines.{lineFeed, numberAt, isCount, isCorner, allThree, kindNamed, ofKind, kindOf, lines, none, linesIn, fits, mayFollow, counted, judge}
+use Rattle.fields.specs.declared.Field.{Field}
+use Rattle.text.specs.declared.Kind.{Kind}
+use Rattle.text.specs.declared.Kind.the-variants as Kinds
+use Rattle.text.specs.declared.Counts.{Counts}
+use Rattle.text.specs.declared.Judged.{Judged}
+use Rattle.text.specs.declared.Judged.the-variants.{BadLine, Good}
+use Rattle.fields.specs.Fields.{lineFeed, fieldOf}
+use Rattle.text.specs.Lines.{numberAt, isCount, isCorner, allThree, kindNamed, ofKind, kindOf, lines, none, linesIn, fits, mayFollow, counted, judge}
 use Rattle.text.specs.LineLaws.{lineAt, lines-nil, judge-next}
 
 -- each of three numbers that pass a test together

@@ -1,9 +1,4 @@
--- The definitions of crate `text`, and their laws.
-pub mod Fields
-pub mod FieldLaws
-pub mod FieldTheorem
+-- Column text: which lines are good, the first bad one, and what a text has whose lines are all good.
 pub mod Lines
 pub mod LineLaws
-pub mod Listing
-pub mod ListingLaws
 pub mod Accepted

@@ -9,10 +9,10 @@ use lib.ListN.{length, getD, take, drop, length-drop, length-append}
 use lib.Seq.{length-take-le, drop-cons, drop-drop, take-take, take-add, take-at, drop-at}
 use borrow.Author.Tests.{ltb-true}
 use Rattle.refusal.specs.Verdicts.{both}
-use Rattle.text.specs.declared.lines.Kind.{Kind}
-use Rattle.text.specs.declared.lines.Kind.the-variants as Kinds
-use Rattle.text.specs.declared.lines.Counts.{Counts}
-use Rattle.text.specs.declared.lines.Judged.the-variants.{BadLine}
+use Rattle.text.specs.declared.Kind.{Kind}
+use Rattle.text.specs.declared.Kind.the-variants as Kinds
+use Rattle.text.specs.declared.Counts.{Counts}
+use Rattle.text.specs.declared.Judged.the-variants.{BadLine}
 use Rattle.text.specs.Lines.{kindOf, linesOf, lines, linesIn, fits, mayFollow, counted, judge}
 
 -- line i of a text, from 0

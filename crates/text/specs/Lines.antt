@@ -4,18 +4,14 @@ use mathlib.Core.Bool.{Bool, false, not, cond, _&&_}
 use mathlib.Core.List.{List, [], _∷_}
 use lib.Dec.{eqb, leb, ltb}
 use lib.ListN.{length, getD, take, drop}
-use Rattle.text.specs.declared.fields.Field.{Field}
-use Rattle.text.specs.declared.fields.Field.the-variants.{Bad, Number}
-use Rattle.text.specs.declared.lines.Kind.{Kind}
-use Rattle.text.specs.declared.lines.Kind.the-variants as Kinds
-use Rattle.text.specs.declared.lines.Counts.{Counts}
-use Rattle.text.specs.declared.lines.Judged.{Judged}
-use Rattle.text.specs.declared.lines.Judged.the-variants.{BadLine, Good}
-use Rattle.text.specs.Fields.{fieldOf}
-
--- the byte of a line feed
-abbrev pub lineFeed : ℕ
-lineFeed = 10
+use Rattle.fields.specs.declared.Field.{Field}
+use Rattle.fields.specs.declared.Field.the-variants.{Bad, Number}
+use Rattle.text.specs.declared.Kind.{Kind}
+use Rattle.text.specs.declared.Kind.the-variants as Kinds
+use Rattle.text.specs.declared.Counts.{Counts}
+use Rattle.text.specs.declared.Judged.{Judged}
+use Rattle.text.specs.declared.Judged.the-variants.{BadLine, Good}
+use Rattle.fields.specs.Fields.{lineFeed, fieldOf}
 
 -- ---- a line
 

@@ -12,8 +12,8 @@ use Rattle.refusal.specs.declared.Refusal.the-variants as Refusals
 use Rattle.refusal.specs.declared.Verdict.{Verdict}
 use Rattle.refusal.specs.declared.Verdict.the-variants.{Passed}
 use Rattle.refusal.specs.Verdicts.{ask, then, written, ask-passed, then-passed}
-use Rattle.mesh.specs.Questions.{askMesh}
-use Rattle.mesh.specs.Accepted.{Accepted, accepted}
+use Rattle.mesh_questions.specs.Questions.{askMesh}
+use Rattle.mesh_questions.specs.Accepted.{Accepted, accepted}
 use Rattle.mesh.specs.Mesh.{Mesh}
 use Rattle.tree.specs.Tree.{Tree}
 use Rattle.tree.specs.TreeRules.{TreeRules}

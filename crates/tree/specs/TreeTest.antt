@@ -10,8 +10,9 @@ use lib.ListN.{length}
 use borrow.Author.Tests.{eq-eqb, ne-eqb, lt-ltb, le-ltb}
 use Rattle.keys.specs.Sorting.{count}
 use Rattle.math.specs.declared.BoundingBox.{BoundingBox}
-use Rattle.mesh.specs.Accepted.{Accepted, length-fans}
-use Rattle.mesh.specs.Faces.{faces}
+use Rattle.mesh_questions.specs.Accepted.{Accepted}
+use Rattle.mesh.specs.Fans.{length-fans}
+use Rattle.mesh_questions.specs.Faces.{faces}
 use Rattle.mesh.specs.Triangles as Triangles
 use Rattle.mesh.specs.Mesh.{Mesh, triangleCount, ownBox}
 use Rattle.math.specs.Boxes.{encloses, join}

@@ -5,7 +5,7 @@ ghost use mathlib.Core.Bool.{_&&_};
 ghost use Prim.Native.Nat.{_+_, _-_, _*_, _/_, _≤_, _<_};
 ghost use lib.Dec.{eqb};
 ghost use lib.ListN.{length};
-ghost use Rattle.mesh.specs.Accepted.{Accepted};
+ghost use Rattle.mesh_questions.specs.Accepted.{Accepted};
 ghost use Rattle.mesh.specs.Triangles as Triangles;
 ghost use Rattle.mesh.specs.Mesh as Mesh;
 ghost use Rattle.tree.specs.Tree as Tree;
@@ -14,8 +14,8 @@ ghost use Rattle.tree.specs.Check as Check;
 use crate::items::items_once;
 use math::BoundingBox;
 use math::Vec3;
-use mesh::Asked;
 use mesh::boxes::own_box;
+use mesh_questions::Asked;
 use refusal::Refusal;
 use refusal::Verdict;
 
@@ -260,7 +260,7 @@ fn keeps_rules(
 pub fn ask_room(coords: &[f64], corners: &[u32], ends: &[u32], work: usize) -> Verdict
     ensures { λ r. ⌜ r ≡ Check.askRoom (Mesh.mesh (now (coords .entry)) (now (corners .entry)) (now (ends .entry))) work ⌝ }
 {
-    let asked = mesh::questions::ask_mesh(coords, corners, ends);
+    let asked = mesh_questions::ask_mesh(coords, corners, ends);
     match asked {
         Asked::Refused(refusal) => Verdict::Refused(refusal),
         Asked::Accepted(_) => {

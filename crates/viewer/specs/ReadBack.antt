@@ -15,10 +15,10 @@ use Rattle.refusal.specs.Numbers.{number, place, code-number, code-place}
 use Rattle.refusal.specs.Verdicts.{ask, then, returned, written, ask-passed, then-passed}
 use Rattle.math.specs.declared.Vec3.{Vec3}
 use Rattle.math.specs.Vectors as Vectors
-use Rattle.mesh.specs.Faces.{faces, length-faces}
+use Rattle.mesh_questions.specs.Faces.{faces, length-faces}
 use Rattle.mesh.specs.Mesh.{Mesh, triangleCount}
-use Rattle.mesh.specs.Questions.{wholeVertices, facesFit, allBelow, askLengths, askFace, askFaces, askFinite, askVertices, askParts, askMesh, Lengths}
-use Rattle.mesh.specs.Accepted.{lengths-of, accepted}
+use Rattle.mesh_questions.specs.Questions.{wholeVertices, facesFit, allBelow, askLengths, askFace, askFaces, askFinite, askVertices, askParts, askMesh, Lengths}
+use Rattle.mesh_questions.specs.Accepted.{lengths-of, accepted}
 use Rattle.tree.specs.Tree.{Tree, nodeCount}
 use Rattle.tree.specs.TreeTest.{treeTest}
 use Rattle.tree.specs.Check.{askRoom, askTree, checkAnswer}
@@ -31,14 +31,14 @@ use Rattle.weld.specs.Questions as Weld
 use Rattle.weld.specs.Passed.{whole-passed}
 use Rattle.polyhedron.specs.Lists.{listFits, askPoints, askList, listVerdict, answersTo}
 use Rattle.polyhedron.specs.ListLaws.{length-answersTo, list-short}
-use Rattle.text.specs.declared.lines.Kind.{Kind}
-use Rattle.text.specs.declared.lines.Counts.{Counts}
-use Rattle.text.specs.declared.lines.Judged.{Judged}
-use Rattle.text.specs.declared.lines.Judged.the-variants.{BadLine, Good}
+use Rattle.text.specs.declared.Kind.{Kind}
+use Rattle.text.specs.declared.Counts.{Counts}
+use Rattle.text.specs.declared.Judged.{Judged}
+use Rattle.text.specs.declared.Judged.the-variants.{BadLine, Good}
 use Rattle.text.specs.Lines.{kindOf, none, linesIn, mayFollow, counted, lines, judge}
 use Rattle.text.specs.LineLaws.{counted-next}
-use Rattle.text.specs.Listing.{listingLength}
-use Rattle.text.specs.ListingLaws.{length-listing}
+use Rattle.listing.specs.Listing.{listingLength}
+use Rattle.listing.specs.ListingLaws.{length-listing}
 use Rattle.viewer.specs.Welding as Welding
 use Rattle.column.specs.Column.{meshOf, pointsOf, askColumn, columnVerdict, columnListing, judged, verdict, columnAnswer}
 use Rattle.column.specs.CallLaws.{has, length-pointsOf}

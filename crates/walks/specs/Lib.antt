@@ -1,10 +1,7 @@
--- The definitions of crate `walks`, and their theorems.
-pub mod Planes
+-- The two walks over a lent tree: their definitions, and that over a tree that keeps the tree rules they find what the plain scan finds.
 pub mod Walks
 pub mod WalkLaws
 pub mod WalkTheorem
-pub mod WalkScan
 pub mod ReadyLaws
+pub mod WalkScan
 pub mod Stacks
-pub mod Leaves
-pub mod Votes

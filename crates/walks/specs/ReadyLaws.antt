@@ -4,7 +4,8 @@ use native.Mathlib.Omega.{arith}
 use mathlib.Core.Path.{_≡_}
 use mathlib.Core.Bool.{false}
 use Rattle.math.specs.Boxes.{isEmpty}
-use Rattle.mesh.specs.Accepted.{Accepted, length-triangles}
+use Rattle.mesh_questions.specs.Accepted.{Accepted}
+use Rattle.mesh.specs.Fans.{length-triangles}
 use Rattle.mesh.specs.Triangles.{triangle}
 use Rattle.mesh.specs.Corners.{triangle-finite}
 use Rattle.mesh.specs.Centers.{box-some}

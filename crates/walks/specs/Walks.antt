@@ -1,28 +1,20 @@
 -- The two walks over a lent tree: what they come to, in which order. Definitions only.
 use Prim.Native.Nat.{ℕ, zero, suc, _+_}
 use mathlib.Core.Path.{_≡_}
-use mathlib.Core.Bool.{Bool, true, cond}
+use mathlib.Core.Bool.{Bool, cond}
 use mathlib.Core.List.{List, [], _∷_, _++_, map}
 use lib.Dec.{eqb}
-use lib.Ieee.{Float, nan}
+use lib.Ieee.{Float}
 use lib.ListN.{getD}
 use Rattle.math.specs.declared.Vec3.{Vec3}
 use Rattle.math.specs.declared.BoundingBox.{BoundingBox}
-use Rattle.math.specs.Vectors.{vec, isFinite}
-use Rattle.mesh.specs.Accepted.{Accepted}
-use Rattle.mesh.specs.Faces.{faces}
+use Rattle.mesh_questions.specs.Accepted.{Accepted}
 use Rattle.mesh.specs.Triangles as Triangles
-use Rattle.mesh.specs.Boxes.{prepare}
 use Rattle.mesh.specs.Mesh.{Mesh}
 use Rattle.tree.specs.Tree.{Tree, nodeCount, boxOf, startOf, countOf}
 use Rattle.tree.specs.TreeRules.{TreeRules}
-use Rattle.edges.specs.Edges.{closed}
-use Rattle.intersect.specs.BoxLaws.{finiteNonZero}
 use Rattle.scan.specs.declared.votes.Vote.{Vote}
-use Rattle.scan.specs.Scan.{some, surfacePasses, touches, inverse, directions, rayPasses, found, isDegenerate, voteOver}
-use Rattle.walks.specs.declared.rays.Ray.{Ray}
-use Rattle.walks.specs.Planes.{nearPlaces}
-use Rattle.walks.specs.declared.points.Prepared.{Prepared}
+use Rattle.scan.specs.Scan.{some, surfacePasses, touches, rayPasses, found, isDegenerate, voteOver}
 
 -- what a walk comes to: a node, whose box it tests, or a triangle of a leaf
 pub data Visit : Type 0 where
@@ -85,25 +77,3 @@ pub record Ready (m : Mesh) (given : ℕ) (t : Tree) : Type 0 where
   pub accepted : Accepted (m .coords) (m .corners) (m .ends)
   pub sides : given ≡ Triangles.sides (m .ends)
   pub rules : TreeRules m t
-
--- and of a ray: its origin is finite, `inverse` is one over its direction, finite and not zero, and `near` has the places of the nearer planes
-pub record Cast (ray : Ray) : Type 0 where
-  pub origin : isFinite (ray .origin) ≡ true
-  pub inverse : ray .inverse ≡ inverse (ray .direction)
-  pub factors : finiteNonZero (ray .inverse) ≡ true
-  pub near : ray .near ≡ nearPlaces (ray .inverse)
-
--- direction k
-unfoldable pub direction : ℕ → Vec3
-direction k = getD directions k (vec nan nan nan)
-
--- what is worked out once for a list of points, of a mesh that is closed or not
-unfoldable pub prepared : List Float → List ℕ → Bool → Prepared
-prepared coords ends closed = record { sides = Triangles.sides ends; bounds = prepare coords; closed = closed; inverses = map inverse directions; near = map nearPlaces (map inverse directions) }
-
--- what `point_answer` takes for granted: an accepted mesh, a tree that keeps the rules, what is prepared of the mesh, and a finite point
-pub record Asked (m : Mesh) (t : Tree) (given : Prepared) (p : Vec3) : Type 0 where
-  pub accepted : Accepted (m .coords) (m .corners) (m .ends)
-  pub rules : TreeRules m t
-  pub prepared : given ≡ prepared (m .coords) (m .ends) (closed (faces (m .corners) (m .ends)))
-  pub finite : isFinite p ≡ true

@@ -1,6 +1,3 @@
-// The surface walk and the ray walk over a stored tree, and the answer to one point by them. The definitions are
-// in specs/Walks.antt; the rule without a tree is in crate scan.
+// The nodes of a lent tree and the stack of a walk. The definitions of the two walks are in specs/Walks.antt; crates
+// `surface_walk` and `ray_walk` walk.
 pub mod nodes;
-pub mod points;
-pub mod rays;
-pub mod surface;

@@ -19,8 +19,8 @@ use Rattle.refusal.specs.declared.Verdict.the-variants.{Passed}
 use Rattle.refusal.specs.Verdicts.{written, both}
 use Rattle.mesh.specs.declared.Triangle.{Triangle}
 use Rattle.mesh.specs.Triangles.{triangle}
-use Rattle.mesh.specs.Faces as Faces
-use Rattle.mesh.specs.Questions.{wholeVertices, endsFit, facesFit, askLengths, allBelow, askFace, askFaces, askFinite, askVertices, askParts, askMesh}
+use Rattle.mesh_questions.specs.Faces as Faces
+use Rattle.mesh_questions.specs.Questions.{wholeVertices, endsFit, facesFit, askLengths, allBelow, askFace, askFaces, askFinite, askVertices, askParts, askMesh}
 use Rattle.weld.specs.Welding.{find, add, addAll, degenerate, kept, facesAmong, numbers, cornersOf, endsFrom, vertices, faces, coords, corners, ends}
 use Rattle.weld.specs.declared.Welded.the-variants.{Sizes}
 use Rattle.weld.specs.Questions.{wholeTriangles, askCorners, Welds}

@@ -17,7 +17,7 @@ use Rattle.refusal.specs.declared.Refusal.{Refusal}
 use Rattle.refusal.specs.declared.Verdict.{Verdict}
 use Rattle.refusal.specs.declared.Verdict.the-variants.{Passed, Refused}
 use Rattle.refusal.specs.Verdicts.{ask-passed, then-passed, both}
-use Rattle.mesh.specs.Questions.{askFinite, askVertices}
+use Rattle.mesh_questions.specs.Questions.{askFinite, askVertices}
 use Rattle.weld.specs.declared.Welded.the-variants as Answers
 use Rattle.weld.specs.Welding.{same, vertices, faces}
 use Rattle.weld.specs.Questions.{wholeTriangles, askCorners, room, askTriangles, weldAnswer}

@@ -12,7 +12,7 @@ use Rattle.refusal.specs.declared.Refusal.the-variants.{Coordinates, Room}
 use Rattle.refusal.specs.declared.Verdict.{Verdict}
 use Rattle.refusal.specs.declared.Verdict.the-variants as Verdicts
 use Rattle.refusal.specs.Verdicts.{ask, then, written}
-use Rattle.mesh.specs.Questions.{askVertices}
+use Rattle.mesh_questions.specs.Questions.{askVertices}
 use Rattle.weld.specs.declared.Welded.{Welded}
 use Rattle.weld.specs.declared.Welded.the-variants.{Refused, Sizes}
 use Rattle.weld.specs.Welding as Welding

@@ -157,7 +157,7 @@ pub fn ask_triangles(triangles: &[f64], coords: usize, corners: usize, ends: usi
     if !((triangles.len() % 9 == 0) & (n <= 21845)) {
         return Verdict::Refused(Refusal::Coordinates);
     }
-    let finite = mesh::questions::ask_vertices(triangles);
+    let finite = mesh_questions::ask_vertices(triangles);
     match finite {
         Verdict::Refused(refusal) => Verdict::Refused(refusal),
         Verdict::Passed => {

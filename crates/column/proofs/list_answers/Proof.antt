@@ -3,9 +3,9 @@ use native.Mathlib.Omega.{arith}
 use mathlib.Core.Path.{sym, _∙_}
 use lib.ListN.{length}
 use Rattle.mesh.specs.Mesh.{mesh}
-use Rattle.mesh.specs.Accepted.{asked-passed, asked-refused}
+use Rattle.mesh_questions.specs.Accepted.{asked-passed, asked-refused}
 use Rattle.polyhedron.specs.ListLaws.{length-answersTo, list-passed}
-use Rattle.text.specs.Listing.{listingLength}
+use Rattle.listing.specs.Listing.{listingLength}
 use Rattle.column.specs.CallLaws.{refused-mesh, refused-room, listed-answers}
 use borrow.Author.Needs.{needs}
 use Rattle.column.proofs.list_answers.Statement.{statement}

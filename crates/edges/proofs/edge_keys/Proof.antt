@@ -11,8 +11,8 @@ use borrow.Author.Needs.{needs}
 use Rattle.keys.specs.Sorting.{sorted, Small}
 use Rattle.keys.specs.SortingTheorems.{length-sorted}
 use Rattle.lent.specs.Over.{over, take-over, drop-over}
-use Rattle.mesh.specs.Faces.{faces}
-use Rattle.mesh.specs.Questions.{endsFit}
+use Rattle.mesh_questions.specs.Faces.{faces}
+use Rattle.mesh_questions.specs.Questions.{endsFit}
 use Rattle.edges.specs.Edges.{edgeKeys}
 use Rattle.edges.specs.Below.{Below}
 use Rattle.edges.specs.EdgeLaws.{length-edgeKeys, flatten-faces, edgeKeys-small}

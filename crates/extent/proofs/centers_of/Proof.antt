@@ -7,7 +7,7 @@ use mathlib.Core.List.{[]}
 use lib.ListN.{length, getD, drop, drop-of-length-le}
 use borrow.Author.Needs.{needs}
 use Rattle.math.specs.Boxes.{empty}
-use Rattle.mesh.specs.Accepted.{fanned}
+use Rattle.mesh_questions.specs.Accepted.{fanned}
 use Rattle.mesh.specs.Triangles.{triangle}
 use Rattle.mesh.specs.Boxes.{triangleCenter}
 use Rattle.mesh.specs.Corners.{triangle-corners, triangle-finite}

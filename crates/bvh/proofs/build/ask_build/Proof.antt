@@ -4,7 +4,7 @@ use native.Mathlib.Omega.{arith}
 use mathlib.Core.Path.{_≡_, sym, _∙_}
 use lib.ListN.{length}
 use borrow.Author.Needs.{needs}
-use Rattle.mesh.specs.Accepted.{accepted, asked-passed, asked-refused}
+use Rattle.mesh_questions.specs.Accepted.{accepted, asked-passed, asked-refused}
 use Rattle.mesh.specs.Mesh.{mesh, triangleCount}
 use Rattle.tree.specs.TreeTest.{triangleCount-accepted}
 use Rattle.bvh.specs.Build.{askBuild, room}

@@ -1,5 +1,5 @@
 -- `own_box` meets its contract: the corners of a triangle of an accepted mesh are finite vertices.
-use Rattle.mesh.specs.Accepted.{fanned}
+use Rattle.mesh_questions.specs.Accepted.{fanned}
 use Rattle.mesh.specs.Triangles.{triangle}
 use Rattle.mesh.specs.Corners.{triangle-corners, triangle-finite}
 use Rattle.mesh.specs.Mesh.{ownBox}

@@ -4,8 +4,8 @@ use mathlib.Core.Path.{sym, _∙_}
 use borrow.Author.Tests.{le-leb, lt-leb}
 use Rattle.lent.specs.Over.{over-nothing}
 use Rattle.refusal.specs.Verdicts.{written}
-use Rattle.text.specs.Listing.{header}
-use Rattle.text.specs.ListingLaws.{length-line}
+use Rattle.listing.specs.Listing.{header}
+use Rattle.listing.specs.ListingLaws.{length-line}
 use Rattle.column.specs.Column.{columnAnswer}
 use Rattle.column.specs.CallLaws.{listed-refused, listed-bytes}
 use Rattle.point_list.specs.Printed.{answerOr, printed}

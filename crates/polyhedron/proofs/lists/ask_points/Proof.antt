@@ -3,7 +3,7 @@ use mathlib.Core.Path.{sym}
 use borrow.Author.Needs.{needs}
 use borrow.Author.Tests.{lt-ltb, le-ltb}
 use Rattle.refusal.specs.declared.Refusal.the-variants.{Point}
-use Rattle.mesh.specs.Walks.{askFinite-points}
+use Rattle.mesh_questions.specs.QuestionLaws.{askFinite-points}
 use Rattle.polyhedron.specs.Lists.{askPoints}
 use Rattle.polyhedron.proofs.lists.ask_points.Statement.{statement}
 use Rattle.polyhedron.proofs.lists.ask_points.Tie as tie

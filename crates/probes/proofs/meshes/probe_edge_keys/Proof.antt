@@ -2,7 +2,7 @@
 -- one key a corner.
 use native.Mathlib.Omega.{arith}
 use mathlib.Core.Path.{sym, _∙_}
-use Rattle.mesh.specs.Accepted.{asked, asked-passed, asked-refused}
+use Rattle.mesh_questions.specs.Accepted.{asked, asked-passed, asked-refused}
 use Rattle.edges.specs.EdgeLaws.{accepted-below}
 use Rattle.probes.specs.Meshes.{keys}
 use Rattle.probes.proofs.Keys.{length-keys}

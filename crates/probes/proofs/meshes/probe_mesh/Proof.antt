@@ -2,8 +2,8 @@
 use native.Mathlib.Omega.{arith}
 use lib.ListN.{length-set}
 use mathlib.Core.Path.{sym, _∙_}
-use Rattle.mesh.specs.Questions as Questions
-use Rattle.mesh.specs.Accepted.{asked, asked-passed, asked-refused}
+use Rattle.mesh_questions.specs.Questions as Questions
+use Rattle.mesh_questions.specs.Accepted.{asked, asked-passed, asked-refused}
 use Rattle.probes.specs.Meshes.{counts}
 use Rattle.probes.proofs.Stores.{sets-front}
 use Rattle.probes.proofs.Verdicts.{mesh-refused, room-refused, passed}

@@ -3,8 +3,9 @@ use Prim.Native.Nat.{_≤_}
 use native.Mathlib.Omega.{arith}
 use mathlib.Core.Path.{sym, ap, _∙_}
 use lib.ListN.{length}
-use Rattle.mesh.specs.Questions as Questions
-use Rattle.mesh.specs.Accepted.{asked, asked-passed, asked-refused, length-triangles}
+use Rattle.mesh_questions.specs.Questions as Questions
+use Rattle.mesh_questions.specs.Accepted.{asked, asked-passed, asked-refused}
+use Rattle.mesh.specs.Fans.{length-triangles}
 use Rattle.probes.specs.Meshes.{boxes}
 use Rattle.probes.proofs.Stores.{sets-front, length-boxes, boxes-stored}
 use Rattle.probes.proofs.Verdicts.{mesh-refused, room-refused, passed}

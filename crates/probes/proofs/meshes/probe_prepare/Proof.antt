@@ -3,7 +3,7 @@
 use Prim.Native.Nat.{_≤_}
 use native.Mathlib.Omega.{arith}
 use mathlib.Core.Path.{sym, _∙_}
-use Rattle.mesh.specs.Accepted.{asked, asked-passed, asked-refused}
+use Rattle.mesh_questions.specs.Accepted.{asked, asked-passed, asked-refused}
 use Rattle.edges.specs.EdgeLaws.{accepted-below}
 use lib.ListN.{length}
 use Rattle.weld.specs.Welding.{numbers}

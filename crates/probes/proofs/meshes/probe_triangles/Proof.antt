@@ -7,8 +7,9 @@ use mathlib.Core.List.{List}
 use lib.Ieee.{Float}
 use lib.ListN.{length}
 use Rattle.mesh.specs.Triangles as Triangles
-use Rattle.mesh.specs.Questions as Questions
-use Rattle.mesh.specs.Accepted.{Accepted, asked, asked-passed, asked-refused, fanned, length-triangles}
+use Rattle.mesh_questions.specs.Questions as Questions
+use Rattle.mesh_questions.specs.Accepted.{Accepted, asked, asked-passed, asked-refused, fanned}
+use Rattle.mesh.specs.Fans.{length-triangles}
 use Rattle.weld.specs.Lists.{length-cornersOf}
 use Rattle.probes.specs.Meshes.{triangles}
 use Rattle.probes.proofs.Stores.{sets-front}

@@ -7,7 +7,7 @@ use lib.ListN.{length, take}
 use lib.Seq.{take-all, sets}
 use Rattle.mesh.specs.Triangles as Triangles
 use Rattle.mesh.specs.Corners.{triangle-corners}
-use Rattle.mesh.specs.Accepted.{length-triangles}
+use Rattle.mesh.specs.Fans.{length-triangles}
 use Rattle.probes.specs.Meshes.{ownBoxes}
 use Rattle.probes.proofs.Stores.{boxes-next}
 use borrow.Author.Needs.{needs}

@@ -6,7 +6,7 @@ use mathlib.Core.Path.{_≡_, _∙_}
 use lib.ListN.{length, take}
 use lib.Seq.{take-all, sets}
 use Rattle.mesh.specs.Triangles as Triangles
-use Rattle.mesh.specs.Accepted.{length-fanned}
+use Rattle.mesh.specs.Fans.{length-fanned}
 use Rattle.weld.specs.Welding.{cornersOf}
 use Rattle.probes.specs.Meshes.{triangles}
 use Rattle.probes.proofs.Stores.{corners-next}

@@ -2,7 +2,7 @@
 use mathlib.Core.Path.{sym, _∙_}
 use borrow.Author.Needs.{needs}
 use borrow.Author.Tests.{le-leb, lt-leb}
-use Rattle.mesh.specs.Accepted.{asked-passed, asked-refused}
+use Rattle.mesh_questions.specs.Accepted.{asked-passed, asked-refused}
 use Rattle.tree.specs.Check.{askRoom}
 use Rattle.tree.proofs.check.ask_room.Statement.{statement}
 use Rattle.tree.proofs.check.ask_room.Tie as tie

@@ -11,7 +11,7 @@ use lib.Seq.{drop-drop}
 use borrow.Author.Needs.{needs}
 use borrow.Author.Tests.{eqb-true, not-true, not-false}
 use Rattle.refusal.specs.Verdicts.{both}
-use Rattle.mesh.specs.Accepted.{Accepted}
+use Rattle.mesh_questions.specs.Accepted.{Accepted}
 use Rattle.mesh.specs.Triangles.{sides}
 use Rattle.mesh.specs.Mesh.{Mesh, mesh, triangleCount}
 use Rattle.tree.specs.Tree.{Tree, tree, nodeCount, itemAt}
