@@ -6,10 +6,10 @@
      target/viewer picture FILE.png
          draws a section through an antenna, each cell coloured by the answer of csx_contains_list
 
-   Compile it in the repository's root, after `rt staticlib viewer`:
+   Compile it in the repository's root, after `make library`:
 
      g++ -std=c++17 -O2 -Wall -Wextra -Wpedantic -Wconversion -Wshadow -Werror -Iinclude examples/viewer.cpp
-         -Ltarget/staticlib -lviewer -lm -o target/viewer */
+         -Ltarget -lzirwennach -lm -o target/viewer */
 #include <algorithm>
 #include <array>
 #include <cstdint>

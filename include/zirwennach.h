@@ -1,4 +1,4 @@
-/* The C functions of the point membership engine. Link with libviewer.a and the C mathematics library. */
+/* The C functions of the point membership engine. Link with libzirwennach.a and the C mathematics library. */
 #ifndef ZIRWENNACH_H
 #define ZIRWENNACH_H
 

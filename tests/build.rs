@@ -1,19 +1,20 @@
-//! Links the engine's archives, which `rt staticlib` writes.
+//! Links the engine's archives, which `make archives` writes.
 
 use std::env;
 use std::path::PathBuf;
 
 fn main() {
     let here = env::var_os("CARGO_MANIFEST_DIR").expect("cargo sets it");
-    let archives = PathBuf::from(here).join("../target/staticlib");
+    let target = PathBuf::from(here).join("../target");
     println!("cargo::rerun-if-changed=build.rs");
-    println!("cargo::rustc-link-search=native={}", archives.display());
-    for name in ["viewer", "probes"] {
-        let archive = archives.join(format!("lib{name}.a"));
+    for (folder, name) in [("", "zirwennach"), ("staticlib", "probes")] {
+        let folder = target.join(folder);
+        let archive = folder.join(format!("lib{name}.a"));
+        println!("cargo::rustc-link-search=native={}", folder.display());
         println!("cargo::rerun-if-changed={}", archive.display());
         println!("cargo::rustc-link-lib=static={name}");
         if !archive.exists() {
-            println!("cargo::error=lib{name}.a is missing: run `rt staticlib {name}` first");
+            println!("cargo::error=lib{name}.a is missing: run `make archives` first");
         }
     }
 }

@@ -4,6 +4,7 @@ pub mod Fans
 pub mod TriangleLaws
 pub mod Boxes
 pub mod Mesh
+pub mod Places
 pub mod Centers
 pub mod Corners
 pub mod Items

@@ -7,9 +7,9 @@ use lib.ListN.{length, getD, take, drop}
 use Rattle.lent.specs.Over.{over}
 use Rattle.mesh.specs.Mesh.{Mesh}
 use Rattle.tree.specs.Tree.{Tree}
-use Rattle.viewer.specs.Trees as Trees
-use Rattle.viewer.specs.Lists as Lists
-use Rattle.viewer.specs.Welding as Welding
+use Rattle.c_meshes.specs.Trees as Trees
+use Rattle.c_lists.specs.Lists as Lists
+use Rattle.c_meshes.specs.Welding as Welding
 use Rattle.replay.specs.Calls.{lent, Builds, Checks, Answers, Welds}
 use Rattle.replay.proofs.LentLaws.{lent-front, over-front}
 

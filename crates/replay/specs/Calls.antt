@@ -17,7 +17,7 @@ use Rattle.bvh.specs.Build as Build
 use Rattle.builder.specs.Builder.{layout}
 use Rattle.weld.specs.Welding as Welding
 use Rattle.polyhedron.specs.Lists.{listVerdict, listAnswer, listWork}
-use Rattle.viewer.specs.Welding as Weld
+use Rattle.c_meshes.specs.Welding as Weld
 use Rattle.replay.specs.declared.outcome.Outcome.{Outcome}
 use Rattle.replay.specs.Outcomes.{outcome}
 use Rattle.records.specs.Records.{after, elements}

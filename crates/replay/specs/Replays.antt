@@ -14,7 +14,7 @@ use Rattle.tree.specs.Check.{askRoom, checkAnswer}
 use Rattle.builder.specs.Builder.{layout}
 use Rattle.weld.specs.Welding as Welding
 use Rattle.polyhedron.specs.Lists.{listVerdict, listAnswer, listWork}
-use Rattle.viewer.specs.Welding as Weld
+use Rattle.c_meshes.specs.Welding as Weld
 use Rattle.replay.specs.declared.outcome.Outcome.{Outcome}
 use Rattle.replay.specs.declared.outcome.Outcome.the-variants.{Unreadable}
 use Rattle.replay.specs.Outcomes.{outcome}

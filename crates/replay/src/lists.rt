@@ -9,6 +9,7 @@ ghost use Rattle.replay.specs.Calls as Calls;
 ghost use Rattle.replay.specs.Replays as Replays;
 use crate::outcome::Outcome;
 use crate::outcome::judged;
+use c_lists::csx_contains_list;
 use records::buffers::byte_places;
 use records::buffers::bytes_are;
 use records::buffers::float_places;
@@ -17,7 +18,6 @@ use records::buffers::smaller;
 use records::buffers::word_places;
 use records::buffers::words_are;
 use records::record::after;
-use viewer::lists::csx_contains_list;
 
 // Lends as much of each buffer as the first two words say.
 fn answer(

@@ -6,21 +6,21 @@ ghost use Rattle.replay.specs.Replays as Replays;
 ghost use Rattle.replay.specs.Shapes as Shapes;
 use crate::outcome::Outcome;
 use crate::outcome::judged;
+use c_shapes::csx_box;
+use c_shapes::csx_box_cylindrical;
+use c_shapes::csx_curve;
+use c_shapes::csx_cylinder;
+use c_shapes::csx_cylindrical_shell;
+use c_shapes::csx_lin_poly;
+use c_shapes::csx_multi_box;
+use c_shapes::csx_point;
+use c_shapes::csx_polygon;
+use c_shapes::csx_sphere;
+use c_shapes::csx_spherical_shell;
+use c_shapes::csx_wire;
 use records::buffers::float_places;
 use records::buffers::put_floats;
 use records::record::after;
-use viewer::shapes::csx_box;
-use viewer::shapes::csx_box_cylindrical;
-use viewer::shapes::csx_curve;
-use viewer::shapes::csx_cylinder;
-use viewer::shapes::csx_cylindrical_shell;
-use viewer::shapes::csx_lin_poly;
-use viewer::shapes::csx_multi_box;
-use viewer::shapes::csx_point;
-use viewer::shapes::csx_polygon;
-use viewer::shapes::csx_sphere;
-use viewer::shapes::csx_spherical_shell;
-use viewer::shapes::csx_wire;
 
 // The answer of the form's function: a has the shape's numbers and then the point. No function answers 2.
 fn answer(form: u64, normal: u64, a: &[f64], list: &[f64]) -> u64

@@ -9,6 +9,8 @@ ghost use Rattle.replay.specs.Calls as Calls;
 ghost use Rattle.replay.specs.Replays as Replays;
 use crate::outcome::Outcome;
 use crate::outcome::judged;
+use c_meshes::trees::csx_build_tree;
+use c_meshes::trees::csx_check_tree;
 use records::buffers::float_places;
 use records::buffers::floats_are;
 use records::buffers::number_places;
@@ -17,8 +19,6 @@ use records::buffers::smaller;
 use records::buffers::word_places;
 use records::buffers::words_are;
 use records::record::after;
-use viewer::trees::csx_build_tree;
-use viewer::trees::csx_check_tree;
 
 // Lends as much of each buffer as the first three words say.
 fn build(

@@ -7,6 +7,7 @@ ghost use Rattle.replay.specs.Calls as Calls;
 ghost use Rattle.replay.specs.Replays as Replays;
 use crate::outcome::Outcome;
 use crate::outcome::judged;
+use c_meshes::meshes::csx_from_triangles;
 use records::buffers::float_places;
 use records::buffers::floats_are;
 use records::buffers::number_places;
@@ -16,7 +17,6 @@ use records::buffers::smaller;
 use records::buffers::word_places;
 use records::buffers::words_are;
 use records::record::after;
-use viewer::meshes::csx_from_triangles;
 
 // Lends as much of each buffer as the first four words say.
 fn weld(

@@ -8,3 +8,4 @@ pub mod Numbers
 pub mod Counting
 pub mod JoinLaws
 pub mod Check
+pub mod Places
