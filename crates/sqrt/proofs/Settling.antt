@@ -43,3 +43,7 @@ third-candidate p w u h e low high = candidate 2 p w u h e (omega arith) (omega 
 pub product-fits : (i j : ℕ) {a b : ℕ} → i + j ≤ 64 → a < 2 ^ i → b < 2 ^ j → a * b < 2 ^ 64
 product-fits i j {a} {b} h l k =
     lt-of-lt-of-le (lt-of-le-of-lt (mul-le-mul-left a (le-of-lt k)) (mul-lt-mul-of-pos-right l (pow-pos j))) (le-trans (le-of-eq (sym (pow-add 2 i j))) (pow-mono h))
+
+-- the bounds of u and the candidates fit
+pub bounds-fit : {p : ℕ} → p < 2 ^ 53 → (2 * p < 2 ^ 64) × (4 * p < 2 ^ 64) × (4 * p + 2 < 2 ^ 64) × (p + 1 < 2 ^ 64) × (6 * p < 2 ^ 64) × (6 * p + 6 < 2 ^ 64) × (p + 2 < 2 ^ 64)
+bounds-fit h = (omega arith, omega arith, omega arith, omega arith, omega arith, omega arith, omega arith)

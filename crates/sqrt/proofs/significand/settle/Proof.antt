@@ -5,7 +5,7 @@ use native.Mathlib.Nat.{sub-pos-iff-lt}
 use native.Mathlib.Omega.{arith}
 use lib.Dec.{lit≤}
 use borrow.Author.Needs.{needs}
-use Rattle.sqrt.proofs.Settling.{u-of, difference, first-candidate, second-candidate, third-candidate, product-fits}
+use Rattle.sqrt.proofs.Settling.{u-of, difference, first-candidate, second-candidate, third-candidate, product-fits, bounds-fit}
 use Rattle.sqrt.proofs.significand.settle.Statement.{statement}
 use Rattle.sqrt.proofs.significand.settle.Tie as tie
 
@@ -67,7 +67,7 @@ sub-u : tie.Need-sub-u
 sub-u c = search needs
 
 mul-if8 : tie.Need-mul-if8
-mul-if8 c = search needs
+mul-if8 c = record { fits = bounds-fit (c .before .before .before .before .before .before .if1 .left) .0 }
 
 -- past the last test for a p far off, u is the difference
 past : (c : tie.Else7) → let p = c .before .before .before .before .before .before .before .args .p in let w = c .before .before .before .before .before .before .before .args .w in u-of p w + p * p ≡ w * 2 ^ 52 + p
@@ -77,25 +77,25 @@ returns-8 : tie.Need-returns-8
 returns-8 c = first-candidate _ _ _ (c .before .before .before .before .before .before .if2 .left) (past (c .before)) (sub-pos-iff-lt .1 (c .before .if7 .left)) (c .if8 .taken)
 
 mul-if9 : tie.Need-mul-if9
-mul-if9 c = search needs
+mul-if9 c = record { fits = bounds-fit (c .before .before .before .before .before .before .before .if1 .left) .1 }
 
 add-if9 : tie.Need-add-if9
-add-if9 c = search needs
+add-if9 c = record { fits = bounds-fit (c .before .before .before .before .before .before .before .if1 .left) .2 }
 
 add-t14 : tie.Need-add-t14
-add-t14 c = search needs
+add-t14 c = record { fits = bounds-fit (c .before .before .before .before .before .before .before .before .if1 .left) .3 }
 
 returns-9 : tie.Need-returns-9
 returns-9 c = second-candidate _ _ _ (c .before .before .before .before .before .before .before .if2 .left) (past (c .before .before)) (c .before .if8 .left) (c .if9 .taken)
 
 mul-if10 : tie.Need-mul-if10
-mul-if10 c = search needs
+mul-if10 c = record { fits = bounds-fit (c .before .before .before .before .before .before .before .before .if1 .left) .4 }
 
 add-if10 : tie.Need-add-if10
-add-if10 c = search needs
+add-if10 c = record { fits = bounds-fit (c .before .before .before .before .before .before .before .before .if1 .left) .5 }
 
 add-t15 : tie.Need-add-t15
-add-t15 c = search needs
+add-t15 c = record { fits = bounds-fit (c .before .before .before .before .before .before .before .before .before .if1 .left) .6 }
 
 returns-10 : tie.Need-returns-10
 returns-10 c = third-candidate _ _ _ (c .before .before .before .before .before .before .before .before .if2 .left) (past (c .before .before .before)) (c .before .if9 .left) (c .if10 .taken)
