@@ -15,7 +15,7 @@ tol-requires c κs = search needs
 
 returns : tie.Need-returns
 unfolding insideWire
-returns c = cc
+returns c = rw (← c .before .before .polyline-dist .ensures, ← c .before .scale .ensures, ← c .tol .ensures)
 
 pub inside-wire-spec : {M : Type 1} → statement M
 inside-wire-spec = tie.close (tie.spec polyline-dist-requires scale-requires tol-requires returns)

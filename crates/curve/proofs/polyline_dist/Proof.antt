@@ -28,7 +28,7 @@ norm-requires : tie.Need-norm-requires Inv-loop μ-loop
 norm-requires c κs = search needs
 
 returns : tie.Need-returns Inv-loop μ-loop
-returns c = rw (polylineDist-point (c .before .before .before .before .before .args .points .now) (c .before .before .before .before .before .args .p) (omega arith)) (cc)
+returns c = rw (polylineDist-point (c .before .before .before .before .before .args .points .now) (c .before .before .before .before .before .args .p) (omega arith), ← c .before .before .at .ensures, ← c .before .sub .ensures) (c .norm .ensures)
 
 float-from-bits-least : tie.Need-float-from-bits-least Inv-loop μ-loop
 unfolding nanBits
@@ -72,7 +72,7 @@ loop-again : tie.Need-loop-again Inv-loop μ-loop
 loop-again c =
     let list = c .before .before .before .before .before .before .before .before .args .points .now in
     let next = segments-next (c .before .before .before .before .before .before .before .before .args .p) (c .before .before .before .before .before .loop .least) list (c .before .before .before .before .before .loop .k) (omega arith) in
-    (omega arith, cc)
+    (omega arith, rw (c .min .ensures, c .before .dist-point-segment .ensures, c .before .before .at3 .ensures, c .before .before .before .at2 .ensures) (sym next ∙ c .before .before .before .before .before .loop .inv .1))
 
 returns-2 : tie.Need-returns-2 Inv-loop μ-loop
 returns-2 c = sym (segments-end _ _ (c .before .before .before .before .args .points .now) (c .before .loop .k) (omega arith)) ∙ c .before .loop .inv .1

@@ -9,7 +9,7 @@ inside-prism-requires c κs = search needs
 
 returns : tie.Need-returns
 unfolding insideLinPoly
-returns c = cc
+returns c = c .inside-prism .ensures
 
 pub inside-lin-poly-spec : {M : Type 1} → statement M
 inside-lin-poly-spec = tie.close (tie.spec inside-prism-requires returns)

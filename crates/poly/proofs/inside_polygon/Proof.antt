@@ -9,7 +9,7 @@ inside-prism-requires c κs = search needs
 
 returns : tie.Need-returns
 unfolding insidePolygon
-returns c = cc
+returns c = c .inside-prism .ensures
 
 pub inside-polygon-spec : {M : Type 1} → statement M
 inside-polygon-spec = tie.close (tie.spec inside-prism-requires returns)

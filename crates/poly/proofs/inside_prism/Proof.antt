@@ -39,7 +39,7 @@ unfolding insidePrism
 returns-3 c =
     let axis = le-ltb _ _ (c .before .before .before .before .before .before .before .if1 .left) in
     let within = not-false (c .before .before .before .before .before .in-range .result) (c .before .before .before .before .if2 .left) in
-    rw (axis, ← c .before .before .before .before .before .before .component .ensures, ← c .before .before .before .before .before .in-range .ensures, within) (cc)
+    rw (axis, ← c .before .before .before .before .before .before .component .ensures, ← c .before .before .before .before .before .in-range .ensures, within, ← c .before .before .before .plane-axes .ensures, ← c .before .before .component2 .ensures, ← c .before .component3 .ensures) (c .point-in-polygon .ensures)
 
 pub inside-prism-spec : {M : Type 1} → statement M
 inside-prism-spec =
