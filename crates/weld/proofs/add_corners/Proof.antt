@@ -43,7 +43,7 @@ unfolding addAll
 adds-three vs l a b c r₁ l₁ r₂ l₂ r₃ l₃ one two three =
     let second = adds-two vs l a b r₁ l₁ r₂ l₂ one two in
     let third = adds-two (add vs a) l b c r₂ l₂ r₃ l₃ second three in
-    record { corners = cc; count = third .count; coords = third .coords }
+    record { corners = rw (one .number, second .number, third .number); count = third .count; coords = third .coords }
 
 at-requires : tie.Need-at-requires
 at-requires c κs = search needs
