@@ -63,14 +63,31 @@ pub fn answer(csx: &Polyhedron, mesh: &Prepared, p: Vec3, want: u64) -> (u64, &'
     if given == want {
         return (given, THE_SAME);
     }
-    // That the rule below without a change is csx's is no matter of course.
-    if cfg!(feature = "port") || by_rule(csx, mesh, p, false, false) != given {
-        return (given, UNEXPLAINED);
-    }
-    match entry(csx, mesh, p, want) {
+    let entry = if cfg!(feature = "port") {
+        None
+    } else {
+        explanation(csx, mesh, p, given, want)
+    };
+    match entry {
         Some(name) => (want, name),
         None => (given, UNEXPLAINED),
     }
+}
+
+/// The entry of the closed list by which csx as published gives one answer and the
+/// plain scan another.
+fn explanation(
+    csx: &Polyhedron,
+    mesh: &Prepared,
+    p: Vec3,
+    given: u64,
+    want: u64,
+) -> Option<&'static str> {
+    // That the rule below without a change is csx's is no matter of course.
+    if by_rule(csx, mesh, p, false, false) != given {
+        return None;
+    }
+    entry(csx, mesh, p, want)
 }
 
 /// The first entry of the closed list with which csx's rule gives this answer.
@@ -121,8 +138,9 @@ mod tests {
         }
     }
 
-    /// A point with three Degenerate rays, and a csx that has its tree over another
-    /// mesh, so that it finds none of them.
+    /// A point with three Degenerate rays, which csx as published decides by its
+    /// winding number, and a csx that has its tree over another mesh, so that it finds
+    /// none of them.
     #[test]
     fn an_entry_explains_nothing_of_another_rule() {
         let mesh = unit_cube();
@@ -134,8 +152,12 @@ mod tests {
         } else {
             EQUAL_VOTES
         };
+        let explained = |csx: &Polyhedron, given| explanation(csx, &rule, p, given, UNDECIDED);
         assert_eq!(answer(&csx, &rule, p, UNDECIDED), (UNDECIDED, word));
+        assert_eq!(explained(&csx, INSIDE), Some(EQUAL_VOTES));
+        assert_eq!(explained(&csx, OUTSIDE), None);
         csx.bvh = Bvh::default();
         assert_eq!(answer(&csx, &rule, p, UNDECIDED), (OUTSIDE, UNEXPLAINED));
+        assert_eq!(explained(&csx, OUTSIDE), None);
     }
 }

@@ -1,7 +1,7 @@
 //! Engines with one fault each, which calls under load have to find.
 
 use super::{ENGINE, Engine, FUNCTIONS, LONG, run};
-use crate::engine::{self, REFUSAL};
+use crate::engine::REFUSAL;
 use crate::kinds::meshes::ROOM;
 use crate::kinds::tests;
 use crate::plan::Plan;
