@@ -15,10 +15,12 @@ use zirwennach_tests::summary::{Run, need_all};
 /// Whether csx has the changes of the closed list.
 const PORT: bool = cfg!(feature = "port");
 
-/// What is asked for: the size by its name, and the file for the counts.
+/// What is asked for: the size by its name, whether the subjects in which csx has no
+/// part are left out, and the file for the counts.
 struct Asked<'a> {
     size: &'a str,
     plan: Plan,
+    csx_alone: bool,
     counts: Option<&'a str>,
 }
 
@@ -26,7 +28,7 @@ fn main() -> ExitCode {
     let arguments: Vec<String> = env::args().skip(1).collect();
     let arguments: Vec<&str> = arguments.iter().map(|argument| &argument[..]).collect();
     let Some(asked) = asked(&arguments) else {
-        eprintln!("usage: compare quick|large [SEED] [--counts FILE]");
+        eprintln!("usage: compare quick|large [SEED] [--csx-alone] [--counts FILE]");
         return ExitCode::from(2);
     };
     // Left empty by a run that fails.
@@ -36,7 +38,7 @@ fn main() -> ExitCode {
     let form = if PORT { "with" } else { "without" };
     let (size, seed) = (asked.size, asked.plan.seed());
     println!("compare {size}, seed {seed}, csx {form} the feature port");
-    let report = run(&asked.plan);
+    let report = run(&asked);
     if !report.failed()
         && let Err(error) = write(&asked, &counted(&asked, &report).text())
     {
@@ -51,6 +53,10 @@ fn asked<'a>(arguments: &[&'a str]) -> Option<Asked<'a>> {
         [front @ .., "--counts", path] => (front, Some(*path)),
         all => (all, None),
     };
+    let (arguments, csx_alone) = match arguments {
+        [front @ .., "--csx-alone"] => (front, true),
+        all => (all, false),
+    };
     let (size, seed) = match arguments {
         [size] => (*size, DEFAULT_SEED),
         [size, seed] => (*size, seed.parse().ok()?),
@@ -61,7 +67,12 @@ fn asked<'a>(arguments: &[&'a str]) -> Option<Asked<'a>> {
         "large" => Plan::large(seed),
         _ => return None,
     };
-    Some(Asked { size, plan, counts })
+    Some(Asked {
+        size,
+        plan,
+        csx_alone,
+        counts,
+    })
 }
 
 /// Writes the file for the counts, if one is asked for.
@@ -88,9 +99,13 @@ fn counted(asked: &Asked, report: &Report) -> Run {
 /// The kinds on a subject.
 type Kinds = fn(&mut Report, &Plan);
 
-const SUBJECTS: [(&str, Kinds); 9] = [
+/// In these csx has no part: both forms of it would show the same.
+const WITHOUT_CSX: [(&str, Kinds); 2] = [
     ("square root", square_root),
     ("number functions", number_functions),
+];
+
+const SUBJECTS: [(&str, Kinds); 7] = [
     ("shapes", all_shapes),
     ("meshes", all_meshes),
     ("welding", welding),
@@ -100,11 +115,16 @@ const SUBJECTS: [(&str, Kinds); 9] = [
     ("column texts", column_texts),
 ];
 
-fn run(plan: &Plan) -> Report {
+fn run(asked: &Asked) -> Report {
     let mut report = Report::new();
-    for (subject, kinds) in SUBJECTS {
+    let others = if asked.csx_alone {
+        &[][..]
+    } else {
+        &WITHOUT_CSX[..]
+    };
+    for (subject, kinds) in others.iter().chain(&SUBJECTS) {
         report.begin(subject);
-        kinds(&mut report, plan);
+        kinds(&mut report, &asked.plan);
     }
     need_all(&mut report, PORT);
     report
