@@ -32,9 +32,10 @@ use Rattle.listing.specs.Listing.{listingText, listingLength}
 use Rattle.listing.specs.ListingLaws.{length-listing}
 use Rattle.column.specs.declared.Listed.{Listed}
 use Rattle.column.specs.declared.Listed.the-variants as Answers
-use Rattle.column.specs.Column.{floatOf, cornerOf, numbersOf, endsFrom, meshOf, pointsOf, askColumn, columnVerdict, columnListing, judged, verdict, columnAnswer, listed, Lists}
-use Rattle.column.specs.Sections.{Whole, Few, ListsAnswers}
-use Rattle.column.specs.NumberLaws.{length-numbers, length-ends, finite-section}
+use Rattle.column.specs.Column.{meshOf, pointsOf, askColumn, columnVerdict, columnListing, judged, verdict, columnAnswer, listed, Lists}
+use Rattle.column.specs.Sections.{Few, ListsAnswers}
+use Rattle.numbers.specs.Numbers.{floatOf, cornerOf, numbersOf, endsFrom, Whole}
+use Rattle.numbers.specs.NumberLaws.{length-numbers, length-ends, finite-section}
 
 -- ---- `list_answers`
 

@@ -1,23 +1,20 @@
 -- The column call (document 01, Column text): what the lines of a text become, its questions in their order, and its listing. Definitions only.
-use Prim.Native.Nat.{ℕ, zero, suc, _+_}
+use Prim.Native.Nat.{ℕ, _+_}
 use mathlib.Core.Path.{_≡_}
-use mathlib.Core.Bool.{cond}
-use lib.IntN.{pos}
-use mathlib.Core.List.{List, [], _∷_}
+use mathlib.Core.List.{List, []}
 use lib.Dec.{leb}
-use lib.Ieee.{Float, nan, neg, ofInt, binary64}
+use lib.Ieee.{Float}
 use lib.ListN.{length, take, drop}
 use Rattle.lent.specs.Over.{over}
 use Rattle.refusal.specs.declared.Refusal.the-variants as Refusals
 use Rattle.refusal.specs.declared.Verdict.{Verdict}
 use Rattle.refusal.specs.declared.Verdict.the-variants.{Passed, Refused}
 use Rattle.refusal.specs.Verdicts.{ask, then, written}
-use Rattle.fields.specs.declared.Field.{Field}
-use Rattle.fields.specs.declared.Field.the-variants.{Bad, Number}
 use Rattle.text.specs.declared.Counts.{Counts}
 use Rattle.text.specs.declared.Judged.{Judged}
 use Rattle.text.specs.declared.Judged.the-variants.{BadLine, Good}
-use Rattle.text.specs.Lines.{numberAt, none, lines, judge}
+use Rattle.text.specs.Lines.{none, lines, judge}
+use Rattle.numbers.specs.Numbers.{floatOf, cornerOf, numbersOf, endsFrom}
 use Rattle.listing.specs.Listing.{listingText, listingLength}
 use Rattle.mesh.specs.Mesh.{Mesh, mesh}
 use Rattle.mesh_questions.specs.Questions.{askMesh}
@@ -25,28 +22,7 @@ use Rattle.polyhedron.specs.Lists.{answersTo}
 use Rattle.column.specs.declared.Listed.{Listed}
 use Rattle.column.specs.declared.Listed.the-variants as Answers
 
--- ---- what the numbers become
-
--- a count of nanometres becomes a float unchanged
-unfoldable pub floatOf : Field → Float
-floatOf Bad = nan
-floatOf (Number negative magnitude) = cond negative (neg (ofInt binary64 (pos magnitude))) (ofInt binary64 (pos magnitude))
-
--- a corner becomes a vertex number
-unfoldable pub cornerOf : Field → ℕ
-cornerOf Bad = 0
-cornerOf (Number negative magnitude) = magnitude
-
--- the three numbers of each line, and what they become
-unfoldable pub numbersOf : {A : Type 0} → (Field → A) → List (List ℕ) → List A
-numbersOf become [] = []
-numbersOf become (line ∷ rest) =
-    become (numberAt 0 line) ∷ become (numberAt 1 line) ∷ become (numberAt 2 line) ∷ numbersOf become rest
-
--- the face ends of so many triangles behind so many corners
-unfoldable pub endsFrom : ℕ → ℕ → List ℕ
-endsFrom corners zero = []
-endsFrom corners (suc triangles) = (corners + 3) ∷ endsFrom (corners + 3) triangles
+-- ---- what the lines become
 
 -- the mesh that lines with these counts say: first the vertices, then the triangles
 unfoldable pub meshOf : Counts → List (List ℕ) → Mesh

@@ -1,6 +1,5 @@
 -- The definitions of crate `column`, and their laws.
 pub mod Column
 pub mod Sections
-pub mod NumberLaws
 pub mod AnswerLaws
 pub mod CallLaws

@@ -1,7 +1,6 @@
 -- What the steps of the column call promise to each other. Definitions only.
-use Prim.Native.Nat.{ℕ, _*_, _/_, _≤_, _<_}
+use Prim.Native.Nat.{ℕ, _*_, _≤_}
 use mathlib.Core.Path.{_≡_}
-use mathlib.Core.Bool.{Bool, true}
 use mathlib.Core.List.{List}
 use lib.Ieee.{Float}
 use lib.ListN.{length}
@@ -11,18 +10,9 @@ use Rattle.refusal.specs.Verdicts.{written}
 use Rattle.mesh.specs.Mesh.{Mesh}
 use Rattle.mesh_questions.specs.Questions.{askMesh}
 use Rattle.polyhedron.specs.Lists.{askList, answersTo}
-use Rattle.fields.specs.declared.Field.{Field}
-use Rattle.text.specs.Lines.{allThree}
-use Rattle.text.specs.LineLaws.{lineAt}
 use Rattle.listing.specs.Listing.{listingText, listingLength}
 use Rattle.column.specs.declared.Listed.{Listed}
 use Rattle.column.specs.Column.{askColumn, listed}
-
--- whole lines whose numbers all pass a test, and three places for each line
-pub record Whole (test : Field → Bool) (text : List ℕ) (places : ℕ) : Type 0 where
-  pub whole : length text ≡ 36 * (length text / 36)
-  pub each : (i : ℕ) → i < length text / 36 → (length (lineAt text i) ≡ 36) × (allThree test (lineAt text i) ≡ true)
-  pub room : 3 * (length text / 36) ≤ places
 
 -- at most 512 triangles and points, and points that 8 and 9 let pass with so many places for answers
 pub record Few (m : Mesh) (points : List Float) (places : ℕ) : Type 0 where

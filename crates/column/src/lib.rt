@@ -1,6 +1,5 @@
 // The column call: column text to a listing of answers (document 01, Column text). The definitions are in specs/.
 pub mod answers;
-pub mod numbers;
 
 ghost use mathlib.Core.Path.{_≡_};
 ghost use lib.ListN.{length};

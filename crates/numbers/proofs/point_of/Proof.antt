@@ -2,8 +2,8 @@
 use Rattle.text.specs.Lines.{isCount}
 use Rattle.text.specs.Accepted.{three}
 use borrow.Author.Needs.{needs}
-use Rattle.column.proofs.numbers.point_of.Statement.{statement}
-use Rattle.column.proofs.numbers.point_of.Tie as tie
+use Rattle.numbers.proofs.point_of.Statement.{statement}
+use Rattle.numbers.proofs.point_of.Tie as tie
 
 number-at-requires : tie.Need-number-at-requires
 number-at-requires c κs = search needs

@@ -1,5 +1,5 @@
 // What the numbers of column text become: coordinates, corners and face ends. The definitions are in
-// specs/Column.antt.
+// specs/Numbers.antt.
 ghost use mathlib.Core.Path.{_≡_};
 ghost use mathlib.Core.Bool.{true};
 ghost use Prim.Native.Nat.{_*_, _/_, _≤_};
@@ -8,8 +8,7 @@ ghost use Rattle.lent.specs.Over.{over};
 ghost use Rattle.math.specs.Vectors.{vec};
 ghost use Rattle.mesh.specs.Triangles.{triangle};
 ghost use Rattle.text.specs.Lines as Lines;
-ghost use Rattle.column.specs.Column as Column;
-ghost use Rattle.column.specs.Sections as Sections;
+ghost use Rattle.numbers.specs.Numbers as Numbers;
 use fields::Field;
 use math::Vec3;
 use mesh::Triangle;
@@ -18,7 +17,7 @@ use text::number_at;
 // A count of nanometres as a float.
 fn float_of(field: Field) -> f64
     requires { ⌜ Lines.isCount field ≡ true ⌝ }
-    ensures { λ r. ⌜ r ≡ Column.floatOf field ⌝ }
+    ensures { λ r. ⌜ r ≡ Numbers.floatOf field ⌝ }
 {
     match field {
         Field::Bad => 0.0,
@@ -38,7 +37,7 @@ fn float_of(field: Field) -> f64
 // A corner as a vertex number.
 fn corner_of(field: Field) -> u32
     requires { ⌜ Lines.isCorner field ≡ true ⌝ }
-    ensures { λ r. ⌜ r ≡ Column.cornerOf field ⌝ }
+    ensures { λ r. ⌜ r ≡ Numbers.cornerOf field ⌝ }
 {
     match field {
         Field::Bad => 0,
@@ -52,7 +51,7 @@ fn corner_of(field: Field) -> u32
 // The point that a line of a vertex or point says.
 fn point_of(line: &[u8]) -> Vec3
     requires { ⌜ (length (now line) ≡ 36) × (Lines.allThree Lines.isCount (now line) ≡ true) ⌝ }
-    ensures { λ r. ⌜ r ≡ vec (Column.floatOf (Lines.numberAt 0 (now (line .entry)))) (Column.floatOf (Lines.numberAt 1 (now (line .entry)))) (Column.floatOf (Lines.numberAt 2 (now (line .entry)))) ⌝ }
+    ensures { λ r. ⌜ r ≡ vec (Numbers.floatOf (Lines.numberAt 0 (now (line .entry)))) (Numbers.floatOf (Lines.numberAt 1 (now (line .entry)))) (Numbers.floatOf (Lines.numberAt 2 (now (line .entry)))) ⌝ }
 {
     Vec3 {
         x: float_of(number_at(line, 0)),
@@ -64,7 +63,7 @@ fn point_of(line: &[u8]) -> Vec3
 // The triangle that a line of a triangle says.
 fn triangle_of(line: &[u8]) -> Triangle
     requires { ⌜ (length (now line) ≡ 36) × (Lines.allThree Lines.isCorner (now line) ≡ true) ⌝ }
-    ensures { λ r. ⌜ r ≡ triangle (Column.cornerOf (Lines.numberAt 0 (now (line .entry)))) (Column.cornerOf (Lines.numberAt 1 (now (line .entry)))) (Column.cornerOf (Lines.numberAt 2 (now (line .entry)))) ⌝ }
+    ensures { λ r. ⌜ r ≡ triangle (Numbers.cornerOf (Lines.numberAt 0 (now (line .entry)))) (Numbers.cornerOf (Lines.numberAt 1 (now (line .entry)))) (Numbers.cornerOf (Lines.numberAt 2 (now (line .entry)))) ⌝ }
 {
     Triangle {
         a: corner_of(number_at(line, 0)),
@@ -75,8 +74,8 @@ fn triangle_of(line: &[u8]) -> Triangle
 
 // Writes the coordinates of lines of vertices or points.
 pub fn fill_points(text: &[u8], coords: &mut [f64])
-    requires { ⌜ Sections.Whole Lines.isCount (now text) (length (now coords)) ⌝ }
-    ensures { λ _. ⌜ now (coords .exit) ≡ over (Column.numbersOf Column.floatOf (Lines.lines (now (text .entry)))) (now (coords .entry)) ⌝ }
+    requires { ⌜ Numbers.Whole Lines.isCount (now text) (length (now coords)) ⌝ }
+    ensures { λ _. ⌜ now (coords .exit) ≡ over (Numbers.numbersOf Numbers.floatOf (Lines.lines (now (text .entry)))) (now (coords .entry)) ⌝ }
 {
     let n = text.len() / 36;
     let mut i = 0;
@@ -91,8 +90,8 @@ pub fn fill_points(text: &[u8], coords: &mut [f64])
 
 // Writes the corners of lines of triangles.
 pub fn fill_corners(text: &[u8], corners: &mut [u32])
-    requires { ⌜ Sections.Whole Lines.isCorner (now text) (length (now corners)) ⌝ }
-    ensures { λ _. ⌜ now (corners .exit) ≡ over (Column.numbersOf Column.cornerOf (Lines.lines (now (text .entry)))) (now (corners .entry)) ⌝ }
+    requires { ⌜ Numbers.Whole Lines.isCorner (now text) (length (now corners)) ⌝ }
+    ensures { λ _. ⌜ now (corners .exit) ≡ over (Numbers.numbersOf Numbers.cornerOf (Lines.lines (now (text .entry)))) (now (corners .entry)) ⌝ }
 {
     let n = text.len() / 36;
     let mut i = 0;
@@ -108,7 +107,7 @@ pub fn fill_corners(text: &[u8], corners: &mut [u32])
 // Writes the face ends of so many triangles.
 pub fn fill_ends(triangles: usize, ends: &mut [u32])
     requires { ⌜ (triangles ≤ 512) × (triangles ≤ length (now ends)) ⌝ }
-    ensures { λ _. ⌜ now (ends .exit) ≡ over (Column.endsFrom 0 triangles) (now (ends .entry)) ⌝ }
+    ensures { λ _. ⌜ now (ends .exit) ≡ over (Numbers.endsFrom 0 triangles) (now (ends .entry)) ⌝ }
 {
     let mut i = 0;
     while i < triangles {

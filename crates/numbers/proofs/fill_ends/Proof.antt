@@ -5,10 +5,10 @@ use mathlib.Core.Path.{_≡_, refl, sym}
 use lib.ListN.{length, length-set}
 use borrow.Author.Needs.{needs}
 use Rattle.lent.specs.Over.{over, over-nothing}
-use Rattle.column.specs.Column.{endsFrom}
-use Rattle.column.specs.NumberLaws.{ends-stored}
-use Rattle.column.proofs.numbers.fill_ends.Statement.{statement}
-use Rattle.column.proofs.numbers.fill_ends.Tie as tie
+use Rattle.numbers.specs.Numbers.{endsFrom}
+use Rattle.numbers.specs.NumberLaws.{ends-stored}
+use Rattle.numbers.proofs.fill_ends.Statement.{statement}
+use Rattle.numbers.proofs.fill_ends.Tie as tie
 
 abbrev Inv-loop : tie.InvT-loop
 Inv-loop triangles ends₀ i₀ ends i = (i ≤ triangles) × (length ends ≡ length ends₀) × (ends ≡ over (endsFrom 0 i) ends₀)

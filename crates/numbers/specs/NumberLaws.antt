@@ -24,8 +24,7 @@ use Rattle.fields.specs.declared.Field.the-variants.{Bad, Number}
 use Rattle.text.specs.Lines.{numberAt, lines, isCount, allThree}
 use Rattle.text.specs.LineLaws.{lineAt, lines-next, length-lines, lines-get}
 use Rattle.text.specs.Accepted.{three}
-use Rattle.column.specs.Sections.{Whole}
-use Rattle.column.specs.Column.{floatOf, numbersOf, endsFrom}
+use Rattle.numbers.specs.Numbers.{floatOf, numbersOf, endsFrom, Whole}
 
 module _ {A : Type 0} (become : Field → A) where
   -- lines one behind the other

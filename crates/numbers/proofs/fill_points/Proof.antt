@@ -8,10 +8,10 @@ use borrow.Author.Needs.{needs}
 use Rattle.lent.specs.Over.{over, over-nothing}
 use Rattle.text.specs.Lines.{lines}
 use Rattle.text.specs.LineLaws.{lineAt, length-lines}
-use Rattle.column.specs.Column.{floatOf, numbersOf}
-use Rattle.column.specs.NumberLaws.{numbers-stored}
-use Rattle.column.proofs.numbers.fill_points.Statement.{statement}
-use Rattle.column.proofs.numbers.fill_points.Tie as tie
+use Rattle.numbers.specs.Numbers.{floatOf, numbersOf}
+use Rattle.numbers.specs.NumberLaws.{numbers-stored}
+use Rattle.numbers.proofs.fill_points.Statement.{statement}
+use Rattle.numbers.proofs.fill_points.Tie as tie
 
 abbrev Inv-loop : tie.InvT-loop
 Inv-loop text coords₀ n i₀ coords i =

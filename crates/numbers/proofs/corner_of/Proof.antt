@@ -6,10 +6,10 @@ use lib.Dec.{leb}
 use borrow.Author.Tests.{leb-true}
 use Rattle.refusal.specs.Verdicts.{both}
 use Rattle.text.specs.Lines.{isCorner}
-use Rattle.column.specs.Column.{cornerOf}
+use Rattle.numbers.specs.Numbers.{cornerOf}
 use borrow.Author.Needs.{needs}
-use Rattle.column.proofs.numbers.corner_of.Statement.{statement}
-use Rattle.column.proofs.numbers.corner_of.Tie as tie
+use Rattle.numbers.proofs.corner_of.Statement.{statement}
+use Rattle.numbers.proofs.corner_of.Tie as tie
 
 enum-told : tie.Need-enum-told
 enum-told c = search needs

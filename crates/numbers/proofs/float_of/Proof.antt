@@ -7,10 +7,10 @@ use lib.Dec.{le→leb}
 use lib.Ieee.{inFloat, prec, binary64}
 use borrow.Author.Tests.{leb-true}
 use Rattle.text.specs.Lines.{isCount}
-use Rattle.column.specs.Column.{floatOf}
+use Rattle.numbers.specs.Numbers.{floatOf}
 use borrow.Author.Needs.{needs}
-use Rattle.column.proofs.numbers.float_of.Statement.{statement}
-use Rattle.column.proofs.numbers.float_of.Tie as tie
+use Rattle.numbers.proofs.float_of.Statement.{statement}
+use Rattle.numbers.proofs.float_of.Tie as tie
 
 enum-told : tie.Need-enum-told
 enum-told c = search needs

@@ -8,10 +8,10 @@ use borrow.Author.Needs.{needs}
 use Rattle.lent.specs.Over.{over, over-nothing}
 use Rattle.text.specs.Lines.{lines}
 use Rattle.text.specs.LineLaws.{lineAt, length-lines}
-use Rattle.column.specs.Column.{cornerOf, numbersOf}
-use Rattle.column.specs.NumberLaws.{numbers-stored}
-use Rattle.column.proofs.numbers.fill_corners.Statement.{statement}
-use Rattle.column.proofs.numbers.fill_corners.Tie as tie
+use Rattle.numbers.specs.Numbers.{cornerOf, numbersOf}
+use Rattle.numbers.specs.NumberLaws.{numbers-stored}
+use Rattle.numbers.proofs.fill_corners.Statement.{statement}
+use Rattle.numbers.proofs.fill_corners.Tie as tie
 
 abbrev Inv-loop : tie.InvT-loop
 Inv-loop text corners₀ n i₀ corners i =
