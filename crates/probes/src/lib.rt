@@ -2,7 +2,7 @@
 pub mod meshes;
 
 ghost use mathlib.Core.Path.{_≡_};
-ghost use Prim.Native.Nat.{_*_, _%_, _^_, _≤_};
+ghost use Prim.Native.Nat.{_*_, _%_, _^_};
 ghost use Rattle.float.specs.Rules as Rules;
 ghost use Rattle.float.specs.TotalOrder as TotalOrder;
 ghost use Rattle.sqrt.specs.Guess as Guess;
@@ -84,12 +84,4 @@ pub extern "C" fn probe_by_digits(w: u64) -> u64
     ensures { λ r. ⌜ r ≡ Root.nearestRoot (w % 2 ^ 54 * 2 ^ 52) ⌝ }
 {
     sqrt::significand::by_digits(w)
-}
-
-// Replays the sample of csx's answers on standard input: 0 if all records are equal, else 1.
-#[no_mangle]
-pub extern "C" fn probe_replay() -> u64
-    ensures { λ r. ⌜ r ≤ 1 ⌝ }
-{
-    replay::replay_sample()
 }

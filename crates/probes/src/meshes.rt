@@ -1,25 +1,26 @@
 // The mesh layer's inner functions. Each asks questions 1 to 5 first and returns the refusal's code, so
-// that none has a requirement; a buffer that is too short is refusal 6. The definitions are in
-// specs/Meshes.antt.
+// that none has a requirement; a buffer that is too short is refusal 6. They are proved safe, and the driver
+// compares what they write.
 ghost use mathlib.Core.Path.{_≡_};
-ghost use mathlib.Core.Bool.{true};
-ghost use mathlib.Core.List.{[], _∷_};
 ghost use Prim.Native.Nat.{_+_, _-_, _*_, _≤_, _<_};
 ghost use lib.ListN.{length};
-ghost use lib.Seq.{sets};
-ghost use Rattle.lent.specs.Over.{over};
-ghost use Rattle.mesh_questions.specs.Questions.{endsFit, askMesh};
 ghost use Rattle.mesh_questions.specs.Accepted.{Accepted, Fanned};
-ghost use Rattle.mesh.specs.Boxes.{Corners};
-ghost use Rattle.mesh.specs.Triangles as Triangles;
-ghost use Rattle.edges.specs.Below.{Below};
-ghost use Rattle.weld.specs.Welding.{numbers};
-ghost use Rattle.probes.specs.Meshes as Meshes;
 use math::BoundingBox;
 use math::Vec3;
 use mesh::Triangle;
 use mesh_questions::Asked;
 use refusal::Refusal;
+
+// 0 if questions 1 to 5 let the mesh pass, else the refusal's code.
+fn refused(coords: &[f64], corners: &[u32], ends: &[u32]) -> u64
+    ensures { λ r. ⌜ (r ≡ 0 → Accepted (now (coords .entry)) (now (corners .entry)) (now (ends .entry))) ⌝ }
+{
+    let asked = mesh_questions::ask_mesh(coords, corners, ends);
+    match asked {
+        Asked::Refused(refusal) => refusal.code(),
+        Asked::Accepted(_) => 0,
+    }
+}
 
 // Writes the counts of vertices, faces and triangles.
 #[no_mangle]
@@ -28,9 +29,7 @@ pub extern "C" fn probe_mesh(
     corners: &[u32],
     ends: &[u32],
     counts: &mut [u64],
-) -> u64
-    ensures { λ r. ⌜ Meshes.Writes (askMesh (now (coords .entry)) (now (corners .entry)) (now (ends .entry))) 0 (Meshes.counts (now (coords .entry)) (now (corners .entry)) (now (ends .entry))) (now (counts .entry)) r (now (counts .exit)) ⌝ }
-{
+) -> u64 {
     let asked = mesh_questions::ask_mesh(coords, corners, ends);
     match asked {
         Asked::Refused(refusal) => refusal.code(),
@@ -49,7 +48,6 @@ pub extern "C" fn probe_mesh(
 // Writes the vertex numbers of a triangle from place `i` on.
 fn put_triangle(t: Triangle, out: &mut [u32], i: usize)
     requires { ⌜ i + 2 < length (now out) ⌝ }
-    ensures { λ _. ⌜ now (out .exit) ≡ sets (now (out .entry)) i (t .a ∷ t .b ∷ t .c ∷ []) ⌝ }
 {
     out[i] = t.a;
     out[i + 1] = t.b;
@@ -61,16 +59,12 @@ fn put_triangles(corners: &[u32], ends: &[u32], triangles: usize, out: &mut [u32
     requires { ⌜ Fanned (now corners) (now ends) ⌝ }
     requires { ⌜ triangles ≡ length (now corners) - 2 * length (now ends) ⌝ }
     requires { ⌜ 3 * triangles ≤ length (now out) ⌝ }
-    ensures { λ _. ⌜ now (out .exit) ≡ sets (now (out .entry)) 0 (Meshes.triangles (now (corners .entry)) (now (ends .entry))) ⌝ }
 {
     let sides = mesh::triangles::sides(ends);
     let mut t = 0;
     while t < triangles {
-        put_triangle(
-            mesh::triangles::triangle(corners, ends, sides, t),
-            out,
-            3 * t,
-        );
+        let found = mesh::triangles::triangle(corners, ends, sides, t);
+        put_triangle(found, out, 3 * t);
         t += 1;
     }
 }
@@ -82,26 +76,22 @@ pub extern "C" fn probe_triangles(
     corners: &[u32],
     ends: &[u32],
     out: &mut [u32],
-) -> u64
-    ensures { λ r. ⌜ Meshes.Writes (askMesh (now (coords .entry)) (now (corners .entry)) (now (ends .entry))) 0 (Meshes.triangles (now (corners .entry)) (now (ends .entry))) (now (out .entry)) r (now (out .exit)) ⌝ }
-{
-    let asked = mesh_questions::ask_mesh(coords, corners, ends);
-    match asked {
-        Asked::Refused(refusal) => refusal.code(),
-        Asked::Accepted(found) => {
-            if out.len() < 3 * found.triangles {
-                return Refusal::Room.code();
-            }
-            put_triangles(corners, ends, found.triangles, out);
-            0
-        }
+) -> u64 {
+    let code = refused(coords, corners, ends);
+    if code != 0 {
+        return code;
     }
+    let triangles = corners.len() - 2 * ends.len();
+    if out.len() < 3 * triangles {
+        return Refusal::Room.code();
+    }
+    put_triangles(corners, ends, triangles, out);
+    0
 }
 
 // Writes a vector from place `i` on.
 fn put_vector(v: Vec3, out: &mut [f64], i: usize)
     requires { ⌜ i + 2 < length (now out) ⌝ }
-    ensures { λ _. ⌜ now (out .exit) ≡ sets (now (out .entry)) i (numbers (v ∷ [])) ⌝ }
 {
     out[i] = v.x;
     out[i + 1] = v.y;
@@ -111,20 +101,9 @@ fn put_vector(v: Vec3, out: &mut [f64], i: usize)
 // Writes a box from place `i` on.
 fn put_box(b: BoundingBox, out: &mut [f64], i: usize)
     requires { ⌜ i + 5 < length (now out) ⌝ }
-    ensures { λ _. ⌜ now (out .exit) ≡ sets (now (out .entry)) i (Meshes.boxNumbers b) ⌝ }
 {
     put_vector(b.min, out, i);
     put_vector(b.max, out, i + 3);
-}
-
-// Writes a triangle's own box and its centre from place `i` on.
-fn put_own_box(coords: &[f64], t: Triangle, out: &mut [f64], i: usize)
-    requires { ⌜ Corners (now coords) t ⌝ }
-    requires { ⌜ i + 8 < length (now out) ⌝ }
-    ensures { λ _. ⌜ now (out .exit) ≡ sets (now (out .entry)) i (Meshes.ownBox (now (coords .entry)) t) ⌝ }
-{
-    put_box(mesh::boxes::triangle_box(coords, t), out, i);
-    put_vector(mesh::boxes::triangle_center(coords, t), out, i + 6);
 }
 
 // Writes every triangle's own box and its centre, from place 13 on.
@@ -132,13 +111,13 @@ fn put_own_boxes(coords: &[f64], corners: &[u32], ends: &[u32], triangles: usize
     requires { ⌜ Accepted (now coords) (now corners) (now ends) ⌝ }
     requires { ⌜ triangles ≡ length (now corners) - 2 * length (now ends) ⌝ }
     requires { ⌜ 13 + 9 * triangles ≤ length (now out) ⌝ }
-    ensures { λ _. ⌜ now (out .exit) ≡ sets (now (out .entry)) 13 (Meshes.ownBoxes (now (coords .entry)) (Triangles.triangles (now (corners .entry)) (now (ends .entry)))) ⌝ }
 {
     let sides = mesh::triangles::sides(ends);
     let mut t = 0;
     while t < triangles {
         let found = mesh::triangles::triangle(corners, ends, sides, t);
-        put_own_box(coords, found, out, 13 + 9 * t);
+        put_box(mesh::boxes::triangle_box(coords, found), out, 13 + 9 * t);
+        put_vector(mesh::boxes::triangle_center(coords, found), out, 19 + 9 * t);
         t += 1;
     }
 }
@@ -146,7 +125,6 @@ fn put_own_boxes(coords: &[f64], corners: &[u32], ends: &[u32], triangles: usize
 // Writes what `prepare` computes of a mesh, the grown box and the tolerance, from place `i` on.
 fn put_prepared(coords: &[f64], out: &mut [f64], i: usize)
     requires { ⌜ i + 6 < length (now out) ⌝ }
-    ensures { λ _. ⌜ now (out .exit) ≡ sets (now (out .entry)) i (Meshes.prepared (now (coords .entry))) ⌝ }
 {
     let prepared = mesh::boxes::prepare(coords);
     put_box(prepared.grown, out, i);
@@ -161,36 +139,19 @@ pub extern "C" fn probe_mesh_boxes(
     corners: &[u32],
     ends: &[u32],
     out: &mut [f64],
-) -> u64
-    ensures { λ r. ⌜ Meshes.Writes (askMesh (now (coords .entry)) (now (corners .entry)) (now (ends .entry))) 0 (Meshes.boxes (now (coords .entry)) (now (corners .entry)) (now (ends .entry))) (now (out .entry)) r (now (out .exit)) ⌝ }
-{
-    let asked = mesh_questions::ask_mesh(coords, corners, ends);
-    match asked {
-        Asked::Refused(refusal) => refusal.code(),
-        Asked::Accepted(found) => {
-            if out.len() < 13 + 9 * found.triangles {
-                return Refusal::Room.code();
-            }
-            put_box(mesh::boxes::mesh_box(coords), out, 0);
-            put_prepared(coords, out, 6);
-            put_own_boxes(coords, corners, ends, found.triangles, out);
-            0
-        }
+) -> u64 {
+    let code = refused(coords, corners, ends);
+    if code != 0 {
+        return code;
     }
-}
-
-// Writes the edge keys of an accepted mesh in ascending order, and returns 1 if it is closed, else 0.
-fn keys_closed(corners: &[u32], ends: &[u32], work: &mut [u64]) -> u64
-    requires { ⌜ endsFit 0 (length (now corners)) (now ends) ≡ true ⌝ }
-    requires { ⌜ Below 65536 (now corners) ⌝ }
-    requires { ⌜ length (now corners) ≤ length (now work) ⌝ }
-    ensures { λ r. ⌜ (r ≡ Meshes.closed (now (corners .entry)) (now (ends .entry))) × (now (work .exit) ≡ over (Meshes.keys (now (corners .entry)) (now (ends .entry))) (now (work .entry))) ⌝ }
-{
-    if edges::keys_closed(corners, ends, work) {
-        1
-    } else {
-        0
+    let triangles = corners.len() - 2 * ends.len();
+    if out.len() < 13 + 9 * triangles {
+        return Refusal::Room.code();
     }
+    put_box(mesh::boxes::mesh_box(coords), out, 0);
+    put_prepared(coords, out, 6);
+    put_own_boxes(coords, corners, ends, triangles, out);
+    0
 }
 
 // Writes the edge keys in ascending order, and returns 1 if the mesh is closed, else 0.
@@ -200,19 +161,15 @@ pub extern "C" fn probe_edge_keys(
     corners: &[u32],
     ends: &[u32],
     work: &mut [u64],
-) -> u64
-    ensures { λ r. ⌜ Meshes.Writes (askMesh (now (coords .entry)) (now (corners .entry)) (now (ends .entry))) (Meshes.closed (now (corners .entry)) (now (ends .entry))) (Meshes.keys (now (corners .entry)) (now (ends .entry))) (now (work .entry)) r (now (work .exit)) ⌝ }
-{
-    let asked = mesh_questions::ask_mesh(coords, corners, ends);
-    match asked {
-        Asked::Refused(refusal) => refusal.code(),
-        Asked::Accepted(_) => {
-            if work.len() < corners.len() {
-                return Refusal::Room.code();
-            }
-            keys_closed(corners, ends, work)
-        }
+) -> u64 {
+    let code = refused(coords, corners, ends);
+    if code != 0 {
+        return code;
     }
+    if work.len() < corners.len() {
+        return Refusal::Room.code();
+    }
+    edges::keys_closed(corners, ends, work) as u64
 }
 
 // All that a list of points needs of its mesh, to be timed: writes the edge keys to `work` and the grown
@@ -224,21 +181,17 @@ pub extern "C" fn probe_prepare(
     ends: &[u32],
     work: &mut [u64],
     out: &mut [f64],
-) -> u64
-    ensures { λ r. ⌜ Meshes.WritesTwo (askMesh (now (coords .entry)) (now (corners .entry)) (now (ends .entry))) (Meshes.closed (now (corners .entry)) (now (ends .entry))) (Meshes.keys (now (corners .entry)) (now (ends .entry))) (now (work .entry)) (Meshes.prepared (now (coords .entry))) (now (out .entry)) r (now (work .exit)) (now (out .exit)) ⌝ }
-{
-    let asked = mesh_questions::ask_mesh(coords, corners, ends);
-    match asked {
-        Asked::Refused(refusal) => refusal.code(),
-        Asked::Accepted(_) => {
-            if work.len() < corners.len() {
-                return Refusal::Room.code();
-            }
-            if out.len() < 7 {
-                return Refusal::Room.code();
-            }
-            put_prepared(coords, out, 0);
-            keys_closed(corners, ends, work)
-        }
+) -> u64 {
+    let code = refused(coords, corners, ends);
+    if code != 0 {
+        return code;
     }
+    if work.len() < corners.len() {
+        return Refusal::Room.code();
+    }
+    if out.len() < 7 {
+        return Refusal::Room.code();
+    }
+    put_prepared(coords, out, 0);
+    edges::keys_closed(corners, ends, work) as u64
 }

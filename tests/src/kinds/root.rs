@@ -4,8 +4,8 @@ use crate::kinds::root_inputs;
 use crate::plan::Plan;
 use crate::report::{Kind, Report};
 
-/// Published inputs and roots.
-const VECTORS: &str = include_str!("../../../crates/root_vectors/stdin");
+/// The text of the published inputs and roots.
+const VECTORS: &str = include_str!("../../data/sqrt-binary64.txt");
 
 /// The roots of document 01's table 'Edges of the rules'.
 const EDGES: [(f64, f64); 3] = [
@@ -26,12 +26,16 @@ pub fn compare(report: &mut Report, plan: &Plan, root: impl Fn(f64) -> f64) {
     }
 }
 
+/// Published inputs and roots.
+pub fn vectors() -> impl Iterator<Item = (f64, f64)> {
+    let lines = VECTORS.lines().filter(|line| !line.starts_with('#'));
+    lines.map(|line| vector(line).expect("two bit patterns in hexadecimal"))
+}
+
 /// Compares with the published roots.
 pub fn published(report: &mut Report, root: impl Fn(f64) -> f64) {
-    let lines = VECTORS.lines().filter(|line| !line.starts_with('#'));
-    let vectors = lines.map(|line| vector(line).expect("two bit patterns in hexadecimal"));
     let names = ["root, published vectors", "Rust's sqrt, published vectors"];
-    known(report, names, vectors, root);
+    known(report, names, vectors(), root);
 }
 
 /// Compares with document 01's roots.

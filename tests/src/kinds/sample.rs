@@ -1,6 +1,6 @@
-//! The sample of csx's answers that the program `csx_answers` is given: calls of the C
-//! functions, what they return and what they write. See README.md for the format.
-//! Nothing here calls the engine.
+//! The sample of csx's answers, and the published square roots, that the program
+//! `csx_answers` is given: calls of the C functions, what they return and what they
+//! write. See README.md for the format. Nothing here calls the engine.
 
 pub mod check;
 mod lists;
@@ -12,8 +12,9 @@ mod shapes;
 
 use std::collections::BTreeMap;
 
-use self::record::Record;
+use self::record::{COORDS, Kind, Record};
 use crate::engine::REFUSAL;
+use crate::kinds::root;
 use crate::plan::{DEFAULT_SEED, Plan};
 
 /// How many cases are made in search of those that are wanted.
@@ -39,6 +40,11 @@ pub fn records() -> Result<Vec<Record>, String> {
     for kind in kinds {
         records.extend(kind(&mut random)?);
     }
+    records.extend(root::vectors().map(|(x, root)| {
+        Record::new(Kind::Root)
+            .list(COORDS, &[x])
+            .returned(root.to_bits())
+    }));
     Ok(records)
 }
 
@@ -105,7 +111,6 @@ fn refusals(last: u64, count: usize) -> Vec<Wanted> {
 
 #[cfg(test)]
 mod tests {
-    use super::record::Kind;
     use super::*;
 
     #[test]
@@ -113,12 +118,12 @@ mod tests {
         let sample = || text(&records().expect("all that is wanted"));
         let first = sample();
         assert_eq!(first, sample());
-        assert!(first.len() <= 720_000, "{}", first.len());
+        assert!(first.len() <= 1_150_000, "{}", first.len());
     }
 
     #[test]
     fn what_is_lacking_is_named() {
-        let record = || Record::new(Kind::Welding).expected(0).show("a");
+        let record = || Record::new(Kind::Welding).show("a");
         let some = |what: &[&str]| collect(each(what, 3), record);
         assert_eq!(some(&["a"]).expect("enough").len(), 3);
         let lacking = some(&["a", "b"]).err().expect("none of b");

@@ -2,7 +2,7 @@
 
 use csx::{Polyhedron, Vec3};
 
-use super::record::{Kind, Record};
+use super::record::{ANSWERS, Kind, POINTS, Record, WORK, WRITTEN};
 use super::{LARGE, Wanted, collect, each, refusals, refused};
 use crate::engine::Point;
 use crate::kinds::answer::{Answer, UNDECIDED};
@@ -21,8 +21,8 @@ use crate::kinds::trees::{Tree, built, others};
 use crate::random::Random;
 
 /// How many words a record has at most, and one of a large mesh.
-const WORDS: usize = 195;
-const LARGE_WORDS: usize = 450;
+const WORDS: usize = 260;
+const LARGE_WORDS: usize = 600;
 
 pub fn records(random: &mut Random) -> Result<Vec<Record>, String> {
     let mut records = kept();
@@ -128,14 +128,14 @@ fn of_call(owned: &Owned) -> Record {
         _ => Default::default(),
     };
     let record = Record::new(Kind::List)
-        .mesh(&owned.mesh)
-        .tree(&owned.tree)
-        .floats(&owned.points)
-        .room(owned.work)
-        .room(owned.answers)
-        .expected(want)
-        .numbers(&call.work_left(want))
-        .numbers(&answers);
+        .mesh(0, &owned.mesh)
+        .tree(0, &owned.tree)
+        .list(POINTS, &owned.points)
+        .room(WORK, owned.work)
+        .room(ANSWERS, owned.answers)
+        .returned(want)
+        .list(WRITTEN + WORK, &call.work_left(want))
+        .list(WRITTEN + ANSWERS, &answers);
     shows.into_iter().fold(record, Record::show)
 }
 
@@ -180,9 +180,7 @@ mod tests {
         let records = kept();
         let mut answers = Vec::new();
         for record in &records {
-            let written = record.written();
-            let corners = record.words[record.expected + 1] as usize;
-            answers.extend(written[corners..].iter().map(|i| record.words[*i]));
+            answers.extend(&record.lists[WRITTEN + ANSWERS]);
         }
         assert!(answers.iter().eq(CASES.iter().map(|case| &case.answer)));
         for entry in [OWN_BOX, EQUAL_VOTES] {

@@ -1,6 +1,8 @@
 //! Welding, building and checking in the sample.
 
-use super::record::{Kind, Record};
+use super::record::{
+    BOXES, COORDS, CORNERS, ENDS, ITEMS, Kind, NODES, POINTS, RETURNED, Record, WORK, WRITTEN,
+};
 use super::{LARGE, collect, each, refusals, refused};
 use crate::engine::REFUSAL;
 use crate::kinds::meshes::expected::center;
@@ -13,14 +15,14 @@ use crate::kinds::trees::{Tree, building, checking, inputs, others};
 use crate::random::Random;
 
 /// How many words a record has at most, and one of a large mesh.
-const WORDS: usize = 120;
-const LARGE_WORDS: usize = 420;
+const WORDS: usize = 190;
+const LARGE_WORDS: usize = 650;
 
 /// The record of a mesh with so many triangles, unwanted if it is too long. A large
 /// mesh may take more words unless something is refused, and is taken for its size
 /// alone.
 fn of_size(record: Record, triangles: usize) -> Record {
-    let answer = record.words[record.expected];
+    let answer = record.lists[RETURNED][0];
     match triangles {
         LARGE.. if answer < REFUSAL => record.unwanted().show("large").at_most(LARGE_WORDS),
         _ => record.at_most(WORDS),
@@ -46,8 +48,9 @@ pub fn welding(random: &mut Random) -> Result<Vec<Record>, String> {
     collect(wanted, || weld(random))
 }
 
-/// The buffers of welding.
+/// The buffers of welding, and which lists they are.
 const ROOMS: [&str; 4] = ["coords", "corners", "ends", "sizes"];
+const BUFFERS: [usize; 4] = [COORDS, CORNERS, ENDS, WORK];
 
 fn weld(random: &mut Random) -> Record {
     let (list, mut room) = welding::faulty(random);
@@ -58,13 +61,15 @@ fn weld(random: &mut Random) -> Record {
     };
     let sizes = welding::sizes(&mesh);
     let sizes = if refusal.is_none() { &sizes[..] } else { &[] };
-    let record = Record::new(Kind::Welding).floats(&list);
     let rooms = room.lengths_mut().map(|length| *length);
-    let record = rooms.into_iter().fold(record, Record::room);
-    let mut record = record
-        .expected(refusal.unwrap_or(0))
-        .mesh(&mesh)
-        .numbers(sizes);
+    let mut record = Record::new(Kind::Welding)
+        .list(POINTS, &list)
+        .returned(refusal.unwrap_or(0))
+        .mesh(WRITTEN, &mesh)
+        .list(WRITTEN + WORK, sizes);
+    for (place, places) in BUFFERS.into_iter().zip(rooms) {
+        record = record.room(place, places);
+    }
     match refusal {
         None if list.is_empty() => record = record.show("no triangles"),
         None if mesh.coords.len() == list.len() => record = record.show("apart"),
@@ -116,12 +121,12 @@ fn built(random: &mut Random) -> Record {
         Some(_) => Tree::default(),
     };
     let record = Record::new(Kind::Building)
-        .mesh(&mesh)
-        .room(room.boxes)
-        .room(room.nodes)
-        .room(room.items)
-        .expected(refusal.unwrap_or(tree.node_count() as u64))
-        .tree(&tree);
+        .mesh(0, &mesh)
+        .room(BOXES, room.boxes)
+        .room(NODES, room.nodes)
+        .room(ITEMS, room.items)
+        .returned(refusal.unwrap_or(tree.node_count() as u64))
+        .tree(WRITTEN, &tree);
     let record = match refusal {
         None => tree_shows(&mesh, &tree)
             .into_iter()
@@ -189,11 +194,11 @@ fn checked(random: &mut Random) -> Record {
 fn check_record((mesh, tree, work): &Check, shows: impl Fn(u64) -> Option<String>) -> Record {
     let answer = checking::answered(mesh, tree, *work);
     let record = Record::new(Kind::Checking)
-        .mesh(mesh)
-        .tree(tree)
-        .room(*work)
-        .expected(answer)
-        .numbers(&checking::work_left(mesh, answer));
+        .mesh(0, mesh)
+        .tree(0, tree)
+        .room(WORK, *work)
+        .returned(answer)
+        .list(WRITTEN + WORK, &checking::work_left(mesh, answer));
     let record = shows(answer).into_iter().fold(record, Record::show);
     of_size(record, mesh.triangle_count())
 }

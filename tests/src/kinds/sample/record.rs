@@ -1,19 +1,33 @@
 //! A record of the sample: a call in words of 64 bits, in one line.
 
 use std::fmt::Write;
-use std::ops::Range;
 
+use crate::kinds::lent::Element;
 use crate::kinds::meshes::Mesh;
 use crate::kinds::trees::Tree;
 
 /// The most words of a record, without the first two.
-const WORDS: usize = 3800;
-/// The most elements of a list, and the most places of a buffer.
-const ELEMENTS: usize = 1024;
+pub const WORDS: usize = 1024;
+/// A NaN's pattern, which the program takes for no word.
+pub const NONE: u64 = 0xFFF8_0000_0000_0001;
 
-/// The place of the length of a shape's list: behind two numbers, the shape's floats and
-/// the point.
-const SHAPE_LIST: usize = 13;
+/// The places of the buffers among the lists of a record: first those of floats, then
+/// those of 32-bit numbers, of words and of bytes.
+pub const COORDS: usize = 0;
+pub const BOXES: usize = 1;
+pub const POINTS: usize = 2;
+pub const CORNERS: usize = 3;
+pub const ENDS: usize = 4;
+pub const NODES: usize = 5;
+pub const ITEMS: usize = 6;
+pub const WORK: usize = 7;
+pub const ANSWERS: usize = 8;
+/// The place of the list that has the number returned alone.
+pub const RETURNED: usize = 9;
+/// What is written at the front of the buffers: the first of these lists.
+pub const WRITTEN: usize = 10;
+/// How many lists there are.
+pub const LISTS: usize = 19;
 
 /// What a record calls.
 #[derive(Clone, Copy, Debug, PartialEq, Eq)]
@@ -23,15 +37,17 @@ pub enum Kind {
     Building,
     Checking,
     List,
+    Root,
 }
 
 impl Kind {
-    pub const ALL: [Self; 5] = [
+    pub const ALL: [Self; 6] = [
         Self::Shape,
         Self::Welding,
         Self::Building,
         Self::Checking,
         Self::List,
+        Self::Root,
     ];
 
     /// What the program calls these records.
@@ -42,6 +58,7 @@ impl Kind {
             Self::Building => "building",
             Self::Checking => "checking",
             Self::List => "lists",
+            Self::Root => "roots",
         }
     }
 }
@@ -50,67 +67,53 @@ impl Kind {
 #[derive(Clone)]
 pub struct Record {
     pub kind: Kind,
-    pub words: Vec<u64>,
-    /// The place of the number that the call returns. The written lists are behind it.
-    pub expected: usize,
+    /// The buffers before the call, the number returned, and what is written.
+    pub lists: [Vec<u64>; LISTS],
     /// What the record is taken for.
     pub shows: Vec<String>,
-    /// Whether a number is a NaN, a list is too long or a buffer is.
-    unfit: bool,
 }
 
 impl Record {
     pub fn new(kind: Kind) -> Self {
         Self {
             kind,
-            words: Vec::new(),
-            expected: 0,
+            lists: Default::default(),
             shows: Vec::new(),
-            unfit: false,
         }
+        .returned(0)
     }
 
-    pub fn word(mut self, word: u64) -> Self {
-        self.words.push(word);
+    /// The record with this for a list.
+    pub fn list<T: Element>(mut self, place: usize, list: &[T]) -> Self {
+        self.lists[place] = list.iter().map(|x| x.bits()).collect();
         self
     }
 
-    pub fn float(mut self, x: f64) -> Self {
-        self.unfit |= x.is_nan();
-        self.word(x.to_bits())
+    /// A buffer that the call may write: so many places, each of which holds 7.
+    pub fn room(self, place: usize, places: usize) -> Self {
+        match place {
+            ..CORNERS => self.list(place, &vec![7.0; places]),
+            _ => self.list(place, &vec![7u64; places]),
+        }
     }
 
-    /// The length of a buffer.
-    pub fn room(mut self, places: usize) -> Self {
-        self.unfit |= places > ELEMENTS;
-        self.word(places as u64)
+    /// The lists of a mesh, for the buffers or, from `WRITTEN` on, as what is written.
+    pub fn mesh(self, first: usize, mesh: &Mesh) -> Self {
+        self.list(first + COORDS, &mesh.coords)
+            .list(first + CORNERS, &mesh.corners)
+            .list(first + ENDS, &mesh.ends)
     }
 
-    pub fn floats(self, list: &[f64]) -> Self {
-        list.iter().fold(self.room(list.len()), |r, x| r.float(*x))
+    /// The same of a tree.
+    pub fn tree(self, first: usize, tree: &Tree) -> Self {
+        self.list(first + BOXES, &tree.boxes)
+            .list(first + NODES, &tree.nodes)
+            .list(first + ITEMS, &tree.items)
     }
 
-    pub fn numbers<T: Copy + Into<u64>>(self, list: &[T]) -> Self {
-        list.iter()
-            .fold(self.room(list.len()), |r, n| r.word((*n).into()))
-    }
-
-    pub fn mesh(self, mesh: &Mesh) -> Self {
-        self.floats(&mesh.coords)
-            .numbers(&mesh.corners)
-            .numbers(&mesh.ends)
-    }
-
-    pub fn tree(self, tree: &Tree) -> Self {
-        self.floats(&tree.boxes)
-            .numbers(&tree.nodes)
-            .numbers(&tree.items)
-    }
-
-    /// What the call returns. Only written lists come behind it.
-    pub fn expected(mut self, answer: u64) -> Self {
-        self.expected = self.words.len();
-        self.word(answer)
+    /// What the call returns.
+    pub fn returned(self, answer: u64) -> Self {
+        self.list(RETURNED, &[answer])
     }
 
     pub fn show(mut self, what: impl Into<String>) -> Self {
@@ -126,92 +129,72 @@ impl Record {
 
     /// The record, unwanted if it has more words than this.
     pub fn at_most(self, words: usize) -> Self {
-        match self.words.len() {
+        match self.words().len() {
             n if n > words => self.unwanted(),
             _ => self,
         }
     }
 
+    /// Its words: of each list the length and the elements.
+    pub fn words(&self) -> Vec<u64> {
+        let words = |list: &Vec<u64>| [&[list.len() as u64], &list[..]].concat();
+        self.lists.iter().flat_map(words).collect()
+    }
+
     /// Whether the program can be given the record.
     pub fn fits(&self) -> bool {
-        !self.unfit && self.words.len() <= WORDS
-    }
-
-    /// The places of each written list's elements. Before them is its length.
-    pub fn written_lists(&self) -> Vec<Range<usize>> {
-        let mut lists = Vec::new();
-        let mut next = self.expected + 1;
-        while let Some(length) = self.words.get(next) {
-            let end = next + 1 + *length as usize;
-            lists.push(next + 1..end);
-            next = end;
-        }
-        lists
-    }
-
-    /// The places of all written elements.
-    pub fn written(&self) -> Vec<usize> {
-        self.written_lists().into_iter().flatten().collect()
-    }
-
-    /// The place of the length of its last list.
-    pub fn last_length(&self) -> usize {
-        match self.written_lists().last() {
-            Some(list) => list.start - 1,
-            None => SHAPE_LIST,
-        }
+        let words = self.words();
+        let mut floats = self.lists[..CORNERS].iter().flatten();
+        words.len() <= WORDS
+            && !words.contains(&NONE)
+            && !floats.any(|bits| f64::from_bits(*bits).is_nan())
     }
 
     /// Its line.
     pub fn text(&self) -> String {
-        let mut text = format!("{:016x} {:016x}", self.kind as u64, self.words.len());
-        for word in &self.words {
-            write!(text, " {word:016x}").expect("a string takes it");
-        }
-        text.push('\n');
-        text
+        line(self.kind as u64, &self.words())
     }
+}
+
+/// A line of these words.
+pub fn line(kind: u64, words: &[u64]) -> String {
+    let mut text = format!("{kind:016x} {:016x}", words.len());
+    for word in words {
+        write!(text, " {word:016x}").expect("a string takes it");
+    }
+    text.push('\n');
+    text
 }
 
 #[cfg(test)]
 mod tests {
     use super::*;
 
-    fn record() -> Record {
-        Record::new(Kind::Building)
-            .floats(&[-0.0])
-            .room(7)
-            .expected(3)
-            .numbers(&[5u32, 6])
-            .floats(&[])
-            .numbers(&[9u8])
-    }
-
     #[test]
     fn a_record_is_a_line_of_words() {
-        let text = Record::new(Kind::Shape).float(1.0).text();
-        assert_eq!(text, "0000000000000001 0000000000000001 3ff0000000000000\n");
-        assert_eq!(record().words[..3], [1, 1 << 63, 7]);
-    }
-
-    #[test]
-    fn the_written_elements_are_found() {
-        let record = record();
-        let written = record.written();
-        let words: Vec<u64> = written.iter().map(|i| record.words[*i]).collect();
-        assert_eq!((record.expected, words), (3, vec![5, 6, 9]));
-        assert_eq!(record.last_length(), record.words.len() - 2);
+        assert_eq!(line(3, &[]), "0000000000000003 0000000000000000\n");
+        assert_eq!(
+            line(1, &[1.0f64.to_bits()]),
+            "0000000000000001 0000000000000001 3ff0000000000000\n"
+        );
+        let record = Record::new(Kind::Building)
+            .list(COORDS, &[-0.0])
+            .room(ANSWERS, 2)
+            .returned(3);
+        let words = record.words();
+        assert_eq!(words[..4], [1, 1 << 63, 0, 0]);
+        assert_eq!(words[9..14], [2, 7, 7, 1, 3]);
+        assert_eq!(words[14..], [0; 9]);
     }
 
     #[test]
     fn numbers_that_are_none_and_long_lists_do_not_fit() {
+        let record = || Record::new(Kind::Building);
         assert!(record().fits());
-        assert!(record().floats(&[f64::INFINITY]).fits());
-        assert!(!record().floats(&[f64::NAN]).fits());
-        assert!(record().numbers(&[0u32; ELEMENTS]).fits());
-        assert!(!record().numbers(&[0u32; ELEMENTS + 1]).fits());
-        assert!(!record().room(ELEMENTS + 1).fits());
-        let long = (0..4).fold(record(), |r, _| r.numbers(&[0u32; 1000]));
-        assert!(!long.fits());
+        assert!(record().list(COORDS, &[f64::INFINITY]).fits());
+        assert!(!record().list(COORDS, &[f64::NAN]).fits());
+        assert!(!record().list(WORK, &[NONE]).fits());
+        assert!(record().room(CORNERS, 1004).fits());
+        assert!(!record().room(CORNERS, 1005).fits());
     }
 }

@@ -1,11 +1,13 @@
-//! A stand-in for the program `replay`, which calls the engine. Each of its tests can be
-//! left out.
+//! A stand-in for the program `csx_answers`, which calls the engine. Each of its tests
+//! can be left out.
 
-use super::record::Kind;
+use super::record::{
+    BOXES, COORDS, CORNERS, ENDS, ITEMS, Kind, LISTS, NODES, NONE, POINTS, RETURNED, WORK, WRITTEN,
+};
 use crate::engine::lists::List;
 use crate::engine::meshes::{Mesh, Welded, from_triangles};
 use crate::engine::trees::Tree;
-use crate::engine::{Point, Shape, answer, lists, trees};
+use crate::engine::{Point, Shape, answer, lists, root, trees};
 use crate::kinds::lent::Element;
 
 /// What the program looks at.
@@ -15,6 +17,7 @@ pub struct Tests {
     pub written: bool,
     pub behind: bool,
     pub digits: bool,
+    pub values: bool,
     pub kinds: bool,
     pub surplus: bool,
     pub end: bool,
@@ -25,6 +28,7 @@ pub const ALL: Tests = Tests {
     written: true,
     behind: true,
     digits: true,
+    values: true,
     kinds: true,
     surplus: true,
     end: true,
@@ -32,7 +36,7 @@ pub const ALL: Tests = Tests {
 
 /// What the program prints for this input.
 pub fn replay(tests: &Tests, text: &[u8]) -> String {
-    let mut counts = [[0; 2]; 5];
+    let mut counts = [[0; 2]; 6];
     let mut unreadable = 0;
     for line in text.split_inclusive(|byte| *byte == b'\n') {
         match record(tests, line) {
@@ -60,27 +64,35 @@ fn record(tests: &Tests, line: &[u8]) -> Option<(usize, bool)> {
     let words: Vec<u64> = words
         .map(|word| number(tests, word))
         .collect::<Option<_>>()?;
-    let [kind, count, words @ ..] = &words[..] else {
+    let [kind, count, mut rest @ ..] = &words[..] else {
         return None;
     };
     let kind = match kind {
-        1..=5 => *kind,
+        1..=6 => *kind,
         _ if tests.kinds => return None,
         _ => 1,
     };
-    if *count != words.len() as u64 {
+    if *count != rest.len() as u64 {
         return None;
     }
-    let mut reader = Reader { words, tests };
-    let equal = match kind {
-        1 => reader.shape(),
-        2 => reader.welding(),
-        3 => reader.building(),
-        4 => reader.checking(),
-        _ => reader.list_of_points(),
+    let lists = (0..LISTS).map(|_| list(&mut rest));
+    let lists: Vec<&[u64]> = lists.collect::<Option<_>>()?;
+    if tests.surplus && !rest.is_empty() {
+        return None;
+    }
+    let [returned] = lists[RETURNED] else {
+        return None;
     };
-    let whole = reader.words.is_empty() || !tests.surplus;
-    whole.then_some((kind as usize - 1, equal?))
+    let (before, written) = (&lists[..RETURNED], &lists[WRITTEN..]);
+    let mut buffers = Buffers::new(before);
+    if tests.values && buffers.words() != before {
+        return None;
+    }
+    let equal = buffers.call(kind)? == *returned || !tests.returned;
+    let left = buffers.words();
+    let mut left = left.iter().zip(before).zip(written);
+    let same = left.all(|((now, before), written)| same(tests, now, before, written));
+    Some((kind as usize - 1, equal && same))
 }
 
 fn number(tests: &Tests, word: &[u8]) -> Option<u64> {
@@ -89,160 +101,122 @@ fn number(tests: &Tests, word: &[u8]) -> Option<u64> {
         return None;
     }
     let word = str::from_utf8(word).ok()?;
-    Some(u64::from_str_radix(word, 16).unwrap_or(0))
+    let number = u64::from_str_radix(word, 16).unwrap_or(0);
+    (number != NONE).then_some(number)
 }
 
-/// The words of a record that are not read yet.
-struct Reader<'a> {
-    words: &'a [u64],
-    tests: &'a Tests,
+/// The next list of a record.
+fn list<'a>(rest: &mut &'a [u64]) -> Option<&'a [u64]> {
+    let length = rest.split_off_first()?;
+    rest.split_off(..usize::try_from(*length).ok()?)
 }
 
-/// The lists of a mesh and of a tree.
-type Lists = (Vec<f64>, Vec<u32>, Vec<u32>);
-
-impl Reader<'_> {
-    fn word(&mut self) -> Option<u64> {
-        self.words.split_off_first().copied()
+/// Whether a buffer begins with what is written and is otherwise as it was.
+fn same(tests: &Tests, now: &[u64], before: &[u64], written: &[u64]) -> bool {
+    if written.len() > now.len() {
+        return false;
     }
+    let (front, behind) = now.split_at(written.len());
+    (front == written || !tests.written) && (*behind == before[written.len()..] || !tests.behind)
+}
 
-    fn list<T: Element>(&mut self) -> Option<Vec<T>> {
-        let length = self.word()?;
-        let list = self.words.split_off(..usize::try_from(length).ok()?)?;
-        Some(list.iter().map(|word| T::from_bits(*word)).collect())
-    }
+/// The buffers, those of each type in their order.
+struct Buffers {
+    floats: [Vec<f64>; 3],
+    numbers: [Vec<u32>; 4],
+    work: Vec<u64>,
+    answers: Vec<u8>,
+}
 
-    /// A buffer, each place of which holds this.
-    fn buffer<T: Copy>(&mut self, filled: T) -> Option<Vec<T>> {
-        let room = self.word()?.min(1024);
-        Some(vec![filled; room as usize])
-    }
-
-    fn lists(&mut self) -> Option<Lists> {
-        Some((self.list()?, self.list()?, self.list()?))
-    }
-
-    fn returned(&mut self, answer: u64) -> Option<bool> {
-        let expected = self.word()?;
-        Some(expected == answer || !self.tests.returned)
-    }
-
-    /// Whether a buffer begins with the next list and is otherwise as it was.
-    fn left<T: Element>(&mut self, buffer: &[T], filled: T) -> Option<bool> {
-        let list: Vec<T> = self.list()?;
-        if list.len() > buffer.len() {
-            return Some(false);
+impl Buffers {
+    fn new(lists: &[&[u64]]) -> Self {
+        fn buffer<T: Element>(list: &[u64]) -> Vec<T> {
+            list.iter().map(|word| T::from_bits(*word)).collect()
         }
-        let (front, behind) = buffer.split_at(list.len());
-        let same = front.iter().zip(&list).all(|(a, b)| a.bits() == b.bits());
-        let unchanged = behind.iter().all(|x| x.bits() == filled.bits());
-        Some((same || !self.tests.written) && (unchanged || !self.tests.behind))
-    }
-
-    fn shape(&mut self) -> Option<bool> {
-        let (form, normal) = (self.word()?, self.word()?);
-        let mut floats = [0.0; 11];
-        for x in &mut floats {
-            *x = f64::from_bits(self.word()?);
+        Self {
+            floats: [COORDS, BOXES, POINTS].map(|place| buffer(lists[place])),
+            numbers: [CORNERS, ENDS, NODES, ITEMS].map(|place| buffer(lists[place])),
+            work: buffer(lists[WORK]),
+            answers: buffer(lists[WORK + 1]),
         }
-        let [a, b, c, d, e, f, g, h, point @ ..] = floats;
-        let (p, q): (Point, Point) = ([a, b, c], [d, e, f]);
-        let shape = match form {
-            1 => Shape::Box(p, q),
-            2 => Shape::CylindricalBox(p, q),
-            3 => Shape::MultiBox,
-            4 => Shape::Sphere(p, d),
-            5 => Shape::SphericalShell(p, d, e),
-            6 => Shape::Cylinder(p, q, g),
-            7 => Shape::CylindricalShell(p, q, g, h),
-            8 => Shape::Polygon(normal, a),
-            9 => Shape::LinPoly(normal, a, b),
-            10 => Shape::Curve,
-            11 => Shape::Wire(a),
-            12 => Shape::Point(p),
-            _ => return None,
+    }
+
+    /// The words that the buffers hold, and none for a NaN.
+    fn words(&self) -> Vec<Vec<u64>> {
+        fn words<T: Element>(list: &[T]) -> Vec<u64> {
+            list.iter().map(|x| x.bits()).collect()
+        }
+        let floats = self.floats.each_ref().map(|list| {
+            let list = list.iter().filter(|x| !x.is_nan());
+            list.map(|x| x.to_bits()).collect()
+        });
+        let numbers = self.numbers.each_ref().map(|list| words(list));
+        let mut all = Vec::from(floats);
+        all.extend(numbers);
+        all.extend([words(&self.work), words(&self.answers)]);
+        all
+    }
+
+    /// What the call of a kind returns.
+    fn call(&mut self, kind: u64) -> Option<u64> {
+        let [coords, boxes, points] = &mut self.floats;
+        let [corners, ends, nodes, items] = &mut self.numbers;
+        let work = &mut self.work;
+        if kind == 1 {
+            return shape(work, coords, points);
+        }
+        if kind == 6 {
+            let [x] = coords[..] else {
+                return None;
+            };
+            return Some(root(x).to_bits());
+        }
+        let mut mesh = Mesh {
+            coords,
+            corners,
+            ends,
         };
-        let mut list = self.list()?;
-        self.returned(answer(&shape, &mut list, point))
-    }
-
-    fn welding(&mut self) -> Option<bool> {
-        let mut triangles = self.list()?;
-        let mut coords = self.buffer(7.0)?;
-        let (mut corners, mut ends) = (self.buffer(7)?, self.buffer(7)?);
-        let mut sizes = self.buffer(7)?;
-        let mut welded = Welded {
-            mesh: Mesh {
-                coords: &mut coords,
-                corners: &mut corners,
-                ends: &mut ends,
-            },
-            sizes: &mut sizes,
+        let mut tree = Tree {
+            boxes,
+            nodes,
+            items,
         };
-        let answer = from_triangles(&mut triangles, &mut welded);
-        let equal = [
-            self.returned(answer)?,
-            self.left(&coords, 7.0)?,
-            self.left(&corners, 7u32)?,
-            self.left(&ends, 7u32)?,
-            self.left(&sizes, 7u64)?,
-        ];
-        Some(!equal.contains(&false))
-    }
-
-    fn building(&mut self) -> Option<bool> {
-        let mut mesh = self.lists()?;
-        let mut tree = (self.buffer(7.0)?, self.buffer(7)?, self.buffer(7)?);
-        let answer = trees::build(&mut lent_mesh(&mut mesh), &mut lent_tree(&mut tree));
-        let equal = [
-            self.returned(answer)?,
-            self.left(&tree.0, 7.0)?,
-            self.left(&tree.1, 7u32)?,
-            self.left(&tree.2, 7u32)?,
-        ];
-        Some(!equal.contains(&false))
-    }
-
-    fn checking(&mut self) -> Option<bool> {
-        let (mut mesh, mut tree) = (self.lists()?, self.lists()?);
-        let mut work = self.buffer(7)?;
-        let (mut mesh, mut tree) = (lent_mesh(&mut mesh), lent_tree(&mut tree));
-        let answer = trees::check(&mut mesh, &mut tree, &mut work);
-        let equal = [self.returned(answer)?, self.left(&work, 7u64)?];
-        Some(!equal.contains(&false))
-    }
-
-    fn list_of_points(&mut self) -> Option<bool> {
-        let (mut mesh, mut tree) = (self.lists()?, self.lists()?);
-        let mut points = self.list()?;
-        let (mut work, mut answers) = (self.buffer(7)?, self.buffer(7)?);
-        let (mut mesh, mut tree) = (lent_mesh(&mut mesh), lent_tree(&mut tree));
-        let mut list = List {
-            points: &mut points,
-            answers: &mut answers,
-        };
-        let answer = lists::contains(&mut mesh, &mut tree, &mut work, &mut list);
-        let equal = [
-            self.returned(answer)?,
-            self.left(&work, 7u64)?,
-            self.left(&answers, 7u8)?,
-        ];
-        Some(!equal.contains(&false))
+        Some(match kind {
+            2 => from_triangles(points, &mut Welded { mesh, sizes: work }),
+            3 => trees::build(&mut mesh, &mut tree),
+            4 => trees::check(&mut mesh, &mut tree, work),
+            _ => {
+                let answers = &mut self.answers;
+                lists::contains(&mut mesh, &mut tree, work, &mut List { points, answers })
+            }
+        })
     }
 }
 
-fn lent_mesh((coords, corners, ends): &mut Lists) -> Mesh<'_> {
-    Mesh {
-        coords,
-        corners,
-        ends,
-    }
-}
-
-fn lent_tree((boxes, nodes, items): &mut Lists) -> Tree<'_> {
-    Tree {
-        boxes,
-        nodes,
-        items,
-    }
+/// The answer to a shape question: the form and the normal direction, the numbers of
+/// the shape and the point, and the list.
+fn shape(work: &[u64], coords: &[f64], list: &mut [f64]) -> Option<u64> {
+    let [form, normal] = *work else {
+        return None;
+    };
+    let [a, b, c, d, e, f, g, h, x, y, z] = *coords else {
+        return None;
+    };
+    let (p, q): (Point, Point) = ([a, b, c], [d, e, f]);
+    let shape = match form {
+        1 => Shape::Box(p, q),
+        2 => Shape::CylindricalBox(p, q),
+        3 => Shape::MultiBox,
+        4 => Shape::Sphere(p, d),
+        5 => Shape::SphericalShell(p, d, e),
+        6 => Shape::Cylinder(p, q, g),
+        7 => Shape::CylindricalShell(p, q, g, h),
+        8 => Shape::Polygon(normal, a),
+        9 => Shape::LinPoly(normal, a, b),
+        10 => Shape::Curve,
+        11 => Shape::Wire(a),
+        12 => Shape::Point(p),
+        _ => return None,
+    };
+    Some(answer(&shape, list, [x, y, z]))
 }

@@ -1,6 +1,6 @@
 //! Shape questions of the sample.
 
-use super::record::{Kind, Record};
+use super::record::{COORDS, Kind, POINTS, Record, WORK};
 use super::{Wanted, collect, each};
 use crate::engine::{Point, Shape};
 use crate::kinds::answer::{Answer, INSIDE, OUTSIDE};
@@ -28,8 +28,8 @@ const NAMES: [&str; 12] = [
     "point",
 ];
 
-/// How many floats a shape has at most.
-const FLOATS: usize = 8;
+/// How many floats a question has: eight of the shape, and the point.
+const FLOATS: usize = 11;
 
 /// How many entries a long list has at least, and at most.
 const MANY: usize = 16;
@@ -146,11 +146,13 @@ fn record(form: &Form, number: u64, case: &Case) -> Record {
     for (place, x) in floats.iter_mut().zip(shape.numbers_mut()) {
         *place = *x;
     }
+    floats[FLOATS - 3..].copy_from_slice(&case.points[0]);
     let answer = answer(form, case);
-    let floats = floats.into_iter().chain(case.points[0]);
-    let record = Record::new(Kind::Shape).word(number).word(normal);
-    let record = floats.fold(record, Record::float);
-    let record = record.floats(&case.list).expected(answer);
+    let record = Record::new(Kind::Shape)
+        .list(WORK, &[number, normal])
+        .list(COORDS, &floats)
+        .list(POINTS, &case.list)
+        .returned(answer);
     shows(form, case, answer)
         .into_iter()
         .fold(record, Record::show)

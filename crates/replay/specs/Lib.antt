@@ -1,5 +1,0 @@
--- The definitions of crate `replay`.
-pub mod Outcomes
-pub mod Shapes
-pub mod Calls
-pub mod Replays

@@ -1,3 +1,0 @@
--- The definitions of the program `root_vectors`.
-pub mod Vector
-pub mod Tally
