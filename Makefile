@@ -62,8 +62,10 @@ compare-published:
 compare-port:
 	tests/target/port/release/compare large --counts tests/target/port.counts
 
-target/replay: target/staticlib/libprobes.a examples/replay.c
-	cc -std=c99 -Wall -Wextra -Werror examples/replay.c -Ltarget/staticlib -lprobes -lm -o $@
+# The program that replays csx's answers, linked with this machine's C library: what rt links asks for a newer one.
+target/replay: $(SOURCES)
+	rt check csx_answers
+	cc target/obj/csx_answers.o -lm -o $@
 
 replay: target/replay
 	target/replay < crates/csx_answers/stdin
