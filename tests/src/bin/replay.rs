@@ -1,5 +1,5 @@
-//! Runs the program `replay` on the sample, as it is and with faults, and compares what
-//! it counts. See README.md.
+//! Runs the program `csx_answers` on the sample, as it is and with faults, and compares
+//! what it counts. See README.md.
 
 use std::path::PathBuf;
 use std::process::{self, ExitCode};

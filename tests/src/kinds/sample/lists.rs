@@ -178,11 +178,10 @@ mod tests {
     #[test]
     fn kept_cases_have_their_answers_and_entries() {
         let records = kept();
-        let mut answers = Vec::new();
-        for record in &records {
-            answers.extend(&record.lists[WRITTEN + ANSWERS]);
-        }
-        assert!(answers.iter().eq(CASES.iter().map(|case| &case.answer)));
+        let lists = records
+            .iter()
+            .map(|record| &record.lists[WRITTEN + ANSWERS]);
+        assert!(lists.flatten().eq(CASES.iter().map(|case| &case.answer)));
         for entry in [OWN_BOX, EQUAL_VOTES] {
             assert!(records.iter().any(|r| r.shows.iter().any(|s| s == entry)));
         }

@@ -64,9 +64,10 @@ fn record(tests: &Tests, line: &[u8]) -> Option<(usize, bool)> {
     let words: Vec<u64> = words
         .map(|word| number(tests, word))
         .collect::<Option<_>>()?;
-    let [kind, count, mut rest @ ..] = &words[..] else {
+    let [kind, count, words @ ..] = &words[..] else {
         return None;
     };
+    let mut rest = words;
     let kind = match kind {
         1..=6 => *kind,
         _ if tests.kinds => return None,
