@@ -15,12 +15,12 @@ use zirwennach_tests::summary::{Run, need_all};
 /// Whether csx has the changes of the closed list.
 const PORT: bool = cfg!(feature = "port");
 
-/// What is asked for: the size by its name, whether the subjects in which csx has no
-/// part are left out, and the file for the counts.
+/// What is asked for: the size by its name, whether the square root is compared, and
+/// the file for the counts.
 struct Asked<'a> {
     size: &'a str,
     plan: Plan,
-    csx_alone: bool,
+    roots: bool,
     counts: Option<&'a str>,
 }
 
@@ -28,7 +28,7 @@ fn main() -> ExitCode {
     let arguments: Vec<String> = env::args().skip(1).collect();
     let arguments: Vec<&str> = arguments.iter().map(|argument| &argument[..]).collect();
     let Some(asked) = asked(&arguments) else {
-        eprintln!("usage: compare quick|large [SEED] [--csx-alone] [--counts FILE]");
+        eprintln!("usage: compare quick|large [SEED] [--no-roots] [--counts FILE]");
         return ExitCode::from(2);
     };
     // Left empty by a run that fails.
@@ -53,9 +53,9 @@ fn asked<'a>(arguments: &[&'a str]) -> Option<Asked<'a>> {
         [front @ .., "--counts", path] => (front, Some(*path)),
         all => (all, None),
     };
-    let (arguments, csx_alone) = match arguments {
-        [front @ .., "--csx-alone"] => (front, true),
-        all => (all, false),
+    let (arguments, roots) = match arguments {
+        [front @ .., "--no-roots"] => (front, false),
+        all => (all, true),
     };
     let (size, seed) = match arguments {
         [size] => (*size, DEFAULT_SEED),
@@ -70,7 +70,7 @@ fn asked<'a>(arguments: &[&'a str]) -> Option<Asked<'a>> {
     Some(Asked {
         size,
         plan,
-        csx_alone,
+        roots,
         counts,
     })
 }
@@ -99,13 +99,8 @@ fn counted(asked: &Asked, report: &Report) -> Run {
 /// The kinds on a subject.
 type Kinds = fn(&mut Report, &Plan);
 
-/// In these csx has no part: both forms of it would show the same.
-const WITHOUT_CSX: [(&str, Kinds); 2] = [
-    ("square root", square_root),
+const SUBJECTS: [(&str, Kinds); 8] = [
     ("number functions", number_functions),
-];
-
-const SUBJECTS: [(&str, Kinds); 7] = [
     ("shapes", all_shapes),
     ("meshes", all_meshes),
     ("welding", welding),
@@ -117,12 +112,11 @@ const SUBJECTS: [(&str, Kinds); 7] = [
 
 fn run(asked: &Asked) -> Report {
     let mut report = Report::new();
-    let others = if asked.csx_alone {
-        &[][..]
-    } else {
-        &WITHOUT_CSX[..]
-    };
-    for (subject, kinds) in others.iter().chain(&SUBJECTS) {
+    if asked.roots {
+        report.begin("square root");
+        square_root(&mut report, &asked.plan);
+    }
+    for (subject, kinds) in SUBJECTS {
         report.begin(subject);
         kinds(&mut report, &asked.plan);
     }
