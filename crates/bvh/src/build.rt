@@ -1,5 +1,5 @@
 // The builder: document 01's questions 1 to 6, and then the tree of the builder rule (csx's bvh.rs). The
-// definitions are in specs/Builder.antt (the rule) and specs/Build.antt (the questions and the promise).
+// definitions are in crate builder, specs/Builder.antt (the rule), and in specs/Build.antt (the questions and the promise).
 ghost use mathlib.Core.Path.{_≡_};
 ghost use Prim.Native.Nat.{_+_, _*_, _≤_, _<_};
 ghost use lib.ListN.{length, set};

@@ -1,4 +1,4 @@
-// The ray walk: the vote of a direction. The definitions are in crate scan, specs/Scan.antt, and in specs/Walks.antt.
+// The ray walk: the vote of a direction. The definitions are in crate scan, specs/Scan.antt, and crate walks, specs/Walks.antt.
 ghost use mathlib.Core.Path.{_≡_};
 ghost use Prim.Native.Nat.{_+_, _≤_, _<_};
 ghost use mathlib.Core.Bool.{true};

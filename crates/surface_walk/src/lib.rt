@@ -1,5 +1,5 @@
-// The surface walk: whether a point is near a triangle. The definitions are in specs/Scan.antt and
-// specs/Walks.antt.
+// The surface walk: whether a point is near a triangle. The definitions are in crate scan, specs/Scan.antt, and crate
+// walks, specs/Walks.antt.
 ghost use mathlib.Core.Path.{_≡_};
 ghost use Prim.Native.Nat.{_+_, _*_, _≤_, _<_};
 ghost use lib.ListN.{length};
