@@ -1,6 +1,6 @@
 // The calls of the engine that records make.
+use crate::buffers::bits_of;
 use crate::input::NONE;
-use crate::lists::bits_of;
 
 // The answer to a shape question: the form and the normal direction, the eight numbers of the shape and the point, and
 // the list.

@@ -36,16 +36,3 @@ pub fn read_word() -> u64 {
     }
     number(&text)
 }
-
-// Reads as many words as have a place. False if one is none.
-pub fn read_words(words: &mut [u64]) -> bool {
-    let mut good = true;
-    let mut i = 0;
-    while i < words.len() {
-        let word = read_word();
-        words[i] = word;
-        good = good & (word != NONE);
-        i += 1;
-    }
-    good
-}

@@ -1,54 +1,84 @@
 // Replays a fixed list of csx's answers and the published square roots, and prints how many of them the engine gives.
-// csx is the Rust crate that the engine is a port of. The records come from standard input, a line each: the kind, the
-// number of words that follow, and these words. tests/README.md says what they are and how they are made again.
+// csx is the Rust crate that the engine is a port of. The records come from standard input, a line each: the kind, how
+// many places each of nine buffers has, what they hold before the call, the number that it returns, and what they hold
+// after it. tests/README.md says how they are made again.
+mod buffers;
 mod calls;
 mod input;
-mod lists;
 
-use crate::calls::call;
+ghost use Prim.Native.Nat.{_≤_};
+use crate::buffers::HELD;
+use crate::buffers::UNREADABLE;
+use crate::input::NONE;
 use libc::STDIN_FILENO;
 use libc::STDOUT_FILENO;
 
-// Calls the engine as a record says. Returns the place of its count: 0 if the record cannot be read, its kind if the
-// engine does what it says, and six places further if not.
-fn replayed(kind: u64, words: &[u64]) -> usize {
-    let mut coords = [0.0; 1024];
-    let mut boxes = [0.0; 1024];
-    let mut points = [0.0; 1024];
-    let mut corners = [0u32; 1024];
-    let mut ends = [0u32; 1024];
-    let mut nodes = [0u32; 1024];
-    let mut items = [0u32; 1024];
-    let mut work = [0u64; 1024];
-    let mut answers = [0u8; 1024];
-    let coords = &mut coords[..lists::size(words, 0)];
-    let boxes = &mut boxes[..lists::size(words, 1)];
-    let points = &mut points[..lists::size(words, 2)];
-    let corners = &mut corners[..lists::size(words, 3)];
-    let ends = &mut ends[..lists::size(words, 4)];
-    let nodes = &mut nodes[..lists::size(words, 5)];
-    let items = &mut items[..lists::size(words, 6)];
-    let work = &mut work[..lists::size(words, 7)];
-    let answers = &mut answers[..lists::size(words, 8)];
-    let mut readable = (lists::start(words, 19) == words.len()) & (lists::size(words, 9) == 1);
-    let mut i = 0;
-    while i < words.len() {
-        readable = readable
-            & lists::float(words, 0, 0, i, coords)
-            & lists::float(words, 1, 1, i, boxes)
-            & lists::float(words, 2, 2, i, points)
-            & lists::number(words, 3, 3, i, corners)
-            & lists::number(words, 4, 4, i, ends)
-            & lists::number(words, 5, 5, i, nodes)
-            & lists::number(words, 6, 6, i, items)
-            & lists::word(words, 7, 7, i, work)
-            & lists::byte(words, 8, 8, i, answers);
-        i += 1;
+// The places of the counts: of the records that say what the engine does, of those that do not, and of those that cannot
+// be read.
+const EQUAL: usize = 0;
+
+const DIFFERENT: usize = 1;
+
+const BROKEN: usize = 2;
+
+// The place of a record's count.
+fn outcome(before: u64, returned: u64, expected: u64, after: u64) -> usize {
+    if (before == UNREADABLE) | (returned == NONE) | (expected == NONE) | (after == UNREADABLE) {
+        return BROKEN;
     }
-    if !readable {
-        return 0;
+    if (returned == expected) & (after == HELD) {
+        return EQUAL;
     }
-    let returned = call(
+    DIFFERENT
+}
+
+// How many places a buffer has.
+fn places(n: u32) -> usize
+    ensures { λ r. ⌜ r ≤ 511 ⌝ }
+{
+    if n < 512 {
+        return n as usize;
+    }
+    511
+}
+
+// Whether each of these numbers is below 512: no bit of them stands for more.
+fn fit(s: &[u32; 9]) -> bool {
+    (s[0] | s[1] | s[2] | s[3] | s[4] | s[5] | s[6] | s[7] | s[8]) < 512
+}
+
+// Calls the engine as a record of this kind says, with buffers of these sizes. Returns the place of its count.
+fn replayed(kind: u64, sizes: &[u32; 9]) -> usize {
+    let mut coords = [0.0; 511];
+    let mut boxes = [0.0; 511];
+    let mut points = [0.0; 511];
+    let mut corners = [0u32; 511];
+    let mut ends = [0u32; 511];
+    let mut nodes = [0u32; 511];
+    let mut items = [0u32; 511];
+    let mut work = [0u64; 511];
+    let mut answers = [0u8; 511];
+    let coords = &mut coords[..places(sizes[0])];
+    let boxes = &mut boxes[..places(sizes[1])];
+    let points = &mut points[..places(sizes[2])];
+    let corners = &mut corners[..places(sizes[3])];
+    let ends = &mut ends[..places(sizes[4])];
+    let nodes = &mut nodes[..places(sizes[5])];
+    let items = &mut items[..places(sizes[6])];
+    let work = &mut work[..places(sizes[7])];
+    let answers = &mut answers[..places(sizes[8])];
+    let before = buffers::all(
+        coords,
+        boxes,
+        points,
+        corners,
+        ends,
+        nodes,
+        items,
+        work,
+        answers,
+    );
+    let returned = calls::call(
         kind,
         coords,
         boxes,
@@ -60,92 +90,63 @@ fn replayed(kind: u64, words: &[u64]) -> usize {
         work,
         answers,
     );
-    if returned == input::NONE {
-        return 0;
-    }
-    let place = (kind % 7) as usize;
-    let mut equal = returned == lists::element(words, 9, 0);
-    i = 0;
-    while i < words.len() {
-        equal = equal
-            & lists::float(words, 0, 10, i, coords)
-            & lists::float(words, 1, 11, i, boxes)
-            & lists::float(words, 2, 12, i, points)
-            & lists::number(words, 3, 13, i, corners)
-            & lists::number(words, 4, 14, i, ends)
-            & lists::number(words, 5, 15, i, nodes)
-            & lists::number(words, 6, 16, i, items)
-            & lists::word(words, 7, 17, i, work)
-            & lists::byte(words, 8, 18, i, answers);
-        i += 1;
-    }
-    if equal {
-        return place;
-    }
-    place + 6
+    let expected = input::read_word();
+    let after = buffers::all(
+        coords,
+        boxes,
+        points,
+        corners,
+        ends,
+        nodes,
+        items,
+        work,
+        answers,
+    );
+    outcome(before, returned, expected, after)
 }
 
-// Counts one record more.
-fn count(counts: &mut [u64; 13], place: usize) {
-    if place < 13 {
-        counts[place] = std::num::wrapping_add_u64(counts[place], 1);
+// The place of the count of the next record, of this kind.
+fn replayed_next(kind: u64) -> usize {
+    let mut sizes = [0u32; 9];
+    if buffers::numbers(HELD, &mut sizes) == UNREADABLE {
+        return BROKEN;
     }
-}
-
-// Reads the words of a record of this kind, and replays it.
-fn replay_record(kind: u64, words: &mut [u64]) -> usize {
-    if input::read_words(words) {
-        return replayed(kind, words);
+    if fit(&sizes) {
+        return replayed(kind, &sizes);
     }
-    0
+    BROKEN
 }
 
 // Replays the next record of the input and counts it. False if there is no other to be read after it.
-fn replay_next(counts: &mut [u64; 13]) -> bool {
+fn replay_next(counts: &mut [u64; 3]) -> bool {
     let mut text = [0u8; 17];
     if io::read_full(STDIN_FILENO, &mut text) == 0 {
         return false;
     }
-    let kind = input::number(&text);
-    let n = input::read_word() as usize;
-    if 1024 < n {
-        count(counts, 0);
-        return false;
+    let place = replayed_next(input::number(&text));
+    if place < 3 {
+        counts[place] = std::num::wrapping_add_u64(counts[place], 1);
     }
-    let mut words = [0u64; 1024];
-    count(counts, replay_record(kind, &mut words[..n]));
-    true
+    place < BROKEN
 }
 
-// Writes a name and a number.
+// Writes a name and a number in a line.
 fn print_count(name: &[u8], n: u64) {
     io::write_all(STDOUT_FILENO, name);
     io::print_decimal(STDOUT_FILENO, n);
-}
-
-// Writes the counts of a kind: how many records, and how many of them are equal and different.
-fn print_counts(name: &[u8], equal: u64, different: u64) {
-    print_count(name, std::num::wrapping_add_u64(equal, different));
-    print_count(b" equal ", equal);
-    print_count(b" different ", different);
     io::write_all(STDOUT_FILENO, b"\n");
 }
 
 // Writes all counts.
-fn report(counts: &[u64; 13]) {
-    print_counts(b"shapes ", counts[1], counts[7]);
-    print_counts(b"welding ", counts[2], counts[8]);
-    print_counts(b"building ", counts[3], counts[9]);
-    print_counts(b"checking ", counts[4], counts[10]);
-    print_counts(b"lists ", counts[5], counts[11]);
-    print_counts(b"roots ", counts[6], counts[12]);
-    print_count(b"unreadable ", counts[0]);
-    io::write_all(STDOUT_FILENO, b"\n");
+fn report(counts: &[u64; 3]) {
+    print_count(b"equal ", counts[EQUAL]);
+    print_count(b"different ", counts[DIFFERENT]);
+    print_count(b"unreadable ", counts[BROKEN]);
 }
 
-// Replays the records of the input, 100,000 at most.
+// Replays the records of the input, 100,000 at most, up to the first that cannot be read.
 fn main() {
-    let mut counts = [0u64; 13];
+    let mut counts = [0u64; 3];
     let mut left: usize = 100_000;
     while left > 0 && replay_next(&mut counts) {
         left -= 1;

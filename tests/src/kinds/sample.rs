@@ -114,14 +114,6 @@ mod tests {
     use super::*;
 
     #[test]
-    fn the_sample_is_small_and_always_the_same() {
-        let sample = || text(&records().expect("all that is wanted"));
-        let first = sample();
-        assert_eq!(first, sample());
-        assert!(first.len() <= 1_150_000, "{}", first.len());
-    }
-
-    #[test]
     fn what_is_lacking_is_named() {
         let record = || Record::new(Kind::Welding).show("a");
         let some = |what: &[&str]| collect(each(what, 3), record);

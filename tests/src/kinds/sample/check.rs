@@ -1,9 +1,11 @@
 //! The check that the program `csx_answers` counts right: the sample as it is, with wrong
 //! answers, and with records that cannot be read.
 
+use std::ops::Range;
+
 use super::record::{
-    ANSWERS, COORDS, CORNERS, Kind as RecordKind, LISTS, NONE, RETURNED, Record, WORDS, WORK,
-    WRITTEN, line,
+    ANSWERS, BUFFERS, COORDS, CORNERS, Kind as RecordKind, NONE, PLACES, Record, WORK, WRITTEN,
+    line,
 };
 use crate::kinds::columns::shown;
 use crate::kinds::meshes::inputs::pick;
@@ -15,12 +17,13 @@ use crate::report::{Kind, Report, Value};
 /// A run of the program under test, with this on its standard input.
 pub type Run<'a> = &'a dyn Fn(&[u8]) -> Ran;
 
-/// An input, and what the program is to count in it.
+/// An input, and what the program is to count in it: it ends at a record that cannot be
+/// read.
 #[derive(Clone, Default)]
 struct Given {
     text: String,
-    equal: [u64; 6],
-    different: [u64; 6],
+    equal: u64,
+    different: u64,
     unreadable: u64,
 }
 
@@ -34,12 +37,12 @@ impl Given {
 
     fn equal(&mut self, record: &Record) {
         self.text.push_str(&record.text());
-        self.equal[record.kind as usize - 1] += 1;
+        self.equal += 1;
     }
 
     fn different(&mut self, record: &Record) {
         self.text.push_str(&record.text());
-        self.different[record.kind as usize - 1] += 1;
+        self.different += 1;
     }
 
     fn unreadable(&mut self, text: &str) {
@@ -49,16 +52,13 @@ impl Given {
 
     /// What is to be printed.
     fn printed(&self) -> String {
-        let mut text = String::new();
-        for (kind, (equal, different)) in self.equal.iter().zip(&self.different).enumerate() {
-            let name = RecordKind::ALL[kind].name();
-            let all = equal + different;
-            text.push_str(&format!(
-                "{name} {all} equal {equal} different {different}\n"
-            ));
-        }
-        text + &format!("unreadable {}\n", self.unreadable)
+        printed(self.equal, self.different, self.unreadable)
     }
+}
+
+/// What the program prints of these counts.
+pub fn printed(equal: u64, different: u64, unreadable: u64) -> String {
+    format!("equal {equal}\ndifferent {different}\nunreadable {unreadable}\n")
 }
 
 /// What a run came to, in words.
@@ -137,7 +137,7 @@ type Sort = (&'static str, fn(&mut Runner));
 const SORTS: [Sort; 5] = [
     ("the sample", as_it_is),
     ("other numbers returned", returned),
-    ("other lists written", written),
+    ("other numbers in the buffers", held),
     ("records that cannot be read", unreadable),
     ("an end inside a record", cut),
 ];
@@ -167,106 +167,65 @@ fn as_it_is(runner: &mut Runner) {
     }
 }
 
-/// The record with another word in a list.
-fn with_word(record: &Record, place: usize, i: usize, word: u64) -> Record {
-    let mut record = record.clone();
-    record.lists[place][i] = word;
-    record
-}
-
 fn returned(runner: &mut Runner) {
     for (what, step) in [("one more returned", 1), ("one less returned", u64::MAX)] {
         runner.changed(what, |record, _| {
-            let word = record.lists[RETURNED][0].wrapping_add(step);
-            Some(with_word(record, RETURNED, 0, word))
+            let answer = record.returned.wrapping_add(step);
+            Some(record.clone().returned(answer))
         });
     }
 }
 
-/// How often any element of a written list is changed.
-const TIMES: usize = 2;
+/// How often any element of a buffer is changed.
+const TIMES: usize = 4;
 
-/// For each buffer, what is written to it.
-fn written(runner: &mut Runner) {
-    for buffer in 0..RETURNED {
-        let written = WRITTEN + buffer;
+/// For each buffer, what it holds after the call, written or not.
+fn held(runner: &mut Runner) {
+    for buffer in 0..BUFFERS {
         for _ in 0..TIMES {
-            runner.changed("any element written", |record, random| {
-                let list = &record.lists[written];
-                let i = list
-                    .len()
-                    .checked_sub(1)
-                    .map(|last| pick(last + 1, random))?;
-                Some(with_word(record, written, i, list[i] ^ 1))
+            runner.changed("any element after the call", |record, random| {
+                let mut record = record.clone();
+                let mut after = record.after(buffer);
+                let last = after.len().checked_sub(1)?;
+                let element = &mut after[pick(last + 1, random)];
+                *element ^= match buffer {
+                    // an infinity with another last bit would be none
+                    ..CORNERS if f64::from_bits(*element).is_infinite() => 1 << 63,
+                    _ => 1,
+                };
+                record.lists[WRITTEN + buffer] = after;
+                Some(record)
             });
         }
-        runner.changed("one element less", |record, _| {
-            let mut record = record.clone();
-            let last = record.lists[written].pop()?;
-            let before = record.lists[buffer][record.lists[written].len()];
-            (last != before).then_some(record)
-        });
-        runner.changed("one element more", |record, _| {
-            let mut record = record.clone();
-            let before = record.lists[buffer].get(record.lists[written].len());
-            let other = before.map_or(0, |word| word ^ 1);
-            record.lists[written].push(other);
-            Some(record)
-        });
     }
 }
 
 /// A way to make a record one that cannot be read: its line.
 type Spoil = fn(&Record, &mut Random) -> String;
 
-/// Those that leave it clear where the record ends.
-const SPOILS: [Spoil; 10] = [
+const SPOILS: [Spoil; 9] = [
     |record, random| {
-        let word = 2 + pick(record.words().len(), random);
+        let word = pick(1 + record.words().len(), random);
         wrong_digit(record, word, random)
     },
     |record, random| {
         let kinds = [0, 7, 255, u64::MAX];
         line(kinds[pick(kinds.len(), random)], &record.words())
     },
-    // a word too much, and a word too few
-    |record, _| with_words(record, |words| words.push(0)),
-    |record, _| with_words(record, |words| words.truncate(words.len() - 1)),
-    // lists that are longer than the record
-    |record, _| {
-        let last = record.words().len() - record.lists[LISTS - 1].len() - 1;
-        with_words(record, |words| words[last] += 1)
-    },
-    |record, random| {
-        let before = record.lists[..pick(LISTS, random)].iter();
-        let place = before.map(|list| list.len() + 1).sum::<usize>();
-        with_words(record, |words| words[place] = u64::MAX)
-    },
+    // more places than a buffer can have
+    |record, random| with_size(record, PLACES as u64 + 1, random),
+    |record, random| with_size(record, u64::MAX, random),
     // what stands for no word
-    |record, random| with_list(record, pick(LISTS, random), |list| list.push(NONE)),
+    |record, random| with_element(record, 0..BUFFERS, NONE, random),
+    |record, _| record.clone().returned(NONE).text(),
     // what is no float, no number of 32 bits, or no byte
-    |record, random| {
-        with_list(record, pick(CORNERS, random), |list| {
-            list.push(f64::NAN.to_bits())
-        })
-    },
-    |record, random| {
-        let numbers = CORNERS..WORK;
-        let place = numbers.start + pick(numbers.len(), random);
-        with_list(record, place, |list| list.push(1 << 32))
-    },
-    |record, _| with_list(record, ANSWERS, |list| list.push(256)),
+    |record, random| with_element(record, 0..CORNERS, f64::NAN.to_bits(), random),
+    |record, random| with_element(record, CORNERS..WORK, 1 << 32, random),
+    |record, random| with_element(record, ANSWERS..BUFFERS, 256, random),
 ];
 
 /// Those of some kinds of records.
-const SPOILS_OF: [(RecordKind, Spoil); 8] = [
-    // no number that is returned, and two
-    (RecordKind::Welding, |record, _| {
-        with_list(record, RETURNED, Vec::clear)
-    }),
-    (RecordKind::Welding, |record, _| {
-        with_list(record, RETURNED, |list| list.push(0))
-    }),
+const SPOILS_OF: [(RecordKind, Spoil); 6] = [
     // forms that no shape has
     (RecordKind::Shape, |record, _| {
         with_list(record, WORK, |list| list[0] = 0)
@@ -274,7 +233,7 @@ const SPOILS_OF: [(RecordKind, Spoil); 8] = [
     (RecordKind::Shape, |record, _| {
         with_list(record, WORK, |list| list[0] = 13)
     }),
-    // a question that has too few numbers
+    // a question that has too few numbers, or too many
     (RecordKind::Shape, |record, _| {
         with_list(record, WORK, |list| list.truncate(1))
     }),
@@ -289,15 +248,6 @@ const SPOILS_OF: [(RecordKind, Spoil); 8] = [
     }),
 ];
 
-/// Those of the first two words. Nothing is said of what comes behind such a record.
-const HEADS: [Spoil; 5] = [
-    |record, random| wrong_digit(record, 0, random),
-    |record, random| wrong_digit(record, 1, random),
-    |record, _| line(record.kind as u64, &[]),
-    |record, _| with_count(record, WORDS as u64 + 1),
-    |record, _| with_count(record, u64::MAX),
-];
-
 /// The line with a byte of this word that is no digit.
 fn wrong_digit(record: &Record, word: usize, random: &mut Random) -> String {
     let wrong = b"gGAF/:`@-+x";
@@ -306,53 +256,58 @@ fn wrong_digit(record: &Record, word: usize, random: &mut Random) -> String {
     String::from_utf8(line).expect("plain letters")
 }
 
-/// The line with other words.
-fn with_words(record: &Record, change: impl Fn(&mut Vec<u64>)) -> String {
+/// The line with this for the number of places of a buffer.
+fn with_size(record: &Record, size: u64, random: &mut Random) -> String {
     let mut words = record.words();
-    change(&mut words);
+    words[pick(BUFFERS, random)] = size;
     line(record.kind as u64, &words)
 }
 
-/// The line with another list.
+/// The line with one place more in one of these buffers, and this element there before
+/// the call or after it.
+fn with_element(
+    record: &Record,
+    buffers: Range<usize>,
+    element: u64,
+    random: &mut Random,
+) -> String {
+    let buffer = buffers.start + pick(buffers.len(), random);
+    let mut record = record.clone();
+    let mut all = record.after(buffer);
+    let (before, after) = match random.flip() {
+        true => (element, 0),
+        false => (0, element),
+    };
+    record.lists[buffer].push(before);
+    all.push(after);
+    record.lists[WRITTEN + buffer] = all;
+    record.text()
+}
+
+/// The line with another list before the call.
 fn with_list(record: &Record, place: usize, change: impl Fn(&mut Vec<u64>)) -> String {
     let mut record = record.clone();
     change(&mut record.lists[place]);
     record.text()
 }
 
-/// The line with this for the number of its words.
-fn with_count(record: &Record, count: u64) -> String {
-    let line = record.text();
-    format!("{}{count:016x}{}", &line[..17], &line[33..])
-}
-
-/// Gives all records, some of them spoiled: one in eight of those that may be.
-fn spoiled(runner: &mut Runner, spoil: Spoil, may: impl Fn(&Record) -> bool) {
-    let mut given = Given::default();
-    for record in runner.records {
-        if may(record) && runner.random.below(8) == 0 {
-            given.unreadable(&spoil(record, runner.random));
-        } else {
-            given.equal(record);
-        }
-    }
-    runner.compare(&given, "records that cannot be read");
+/// Gives a record that cannot be read behind some records and before some.
+fn spoiled(runner: &mut Runner, spoil: Spoil, kind: RecordKind) {
+    let (before, record) = runner.up_to(kind);
+    let mut given = Given::right(before);
+    given.unreadable(&spoil(record, runner.random));
+    given.text.push_str(&Given::right(before).text);
+    runner.compare(&given, "a record that cannot be read");
 }
 
 fn unreadable(runner: &mut Runner) {
     for spoil in SPOILS {
-        spoiled(runner, spoil, |_| true);
+        for kind in RecordKind::ALL {
+            spoiled(runner, spoil, kind);
+        }
     }
     for (kind, spoil) in SPOILS_OF {
-        spoiled(runner, spoil, |record| record.kind == kind);
-    }
-    for spoil in HEADS {
-        for kind in RecordKind::ALL {
-            let (before, record) = runner.up_to(kind);
-            let mut given = Given::right(before);
-            given.unreadable(&spoil(record, runner.random));
-            runner.compare(&given, "a last record that cannot be read");
-        }
+        spoiled(runner, spoil, kind);
     }
 }
 
@@ -363,7 +318,7 @@ fn cut(runner: &mut Runner) {
         let line = record.text();
         let last = line.len() - 1;
         let any = 1 + pick(last, runner.random);
-        for end in [1, 15, 16, 17, 18, 33, 34, 35, any, last - 16, last] {
+        for end in [1, 15, 16, 17, 18, 153, 169, 170, 171, any, last - 16, last] {
             let mut given = Given::right(before);
             given.unreadable(&line[..end]);
             runner.compare(&given, &format!("{end} bytes of a record"));
@@ -390,7 +345,7 @@ mod tests {
     }
 
     /// A run that prints this.
-    fn printed(text: String) -> Ran {
+    fn prints(text: String) -> Ran {
         Ran {
             status: Some(0),
             output: text.into_bytes(),
@@ -402,7 +357,7 @@ mod tests {
     fn caught(leave_out: fn(&mut Tests)) -> bool {
         let mut tests = ALL;
         leave_out(&mut tests);
-        fails(|text| printed(replay(&tests, text)))
+        fails(|text| prints(replay(&tests, text)))
     }
 
     #[test]
@@ -419,20 +374,20 @@ mod tests {
     #[test]
     fn each_test_that_is_left_out_is_seen() {
         assert!(caught(|tests| tests.returned = false));
-        assert!(caught(|tests| tests.written = false));
-        assert!(caught(|tests| tests.behind = false));
+        assert!(caught(|tests| tests.held = false));
         assert!(caught(|tests| tests.digits = false));
-        assert!(caught(|tests| tests.values = false));
+        assert!(caught(|tests| tests.before = false));
+        assert!(caught(|tests| tests.after = false));
         assert!(caught(|tests| tests.kinds = false));
-        assert!(caught(|tests| tests.surplus = false));
+        assert!(caught(|tests| tests.sizes = false));
         assert!(caught(|tests| tests.end = false));
     }
 
     #[test]
     fn a_program_that_prints_the_same_always_fails() {
         let given = Given::right(&SAMPLE);
-        assert!(fails(|_| printed(given.printed())));
-        assert!(fails(|text| printed(replay(&ALL, text) + "\n")));
+        assert!(fails(|_| prints(given.printed())));
+        assert!(fails(|text| prints(replay(&ALL, text) + "\n")));
     }
 
     #[test]
@@ -441,7 +396,7 @@ mod tests {
             assert!(fails(|text| Ran {
                 status,
                 message: message.into(),
-                ..printed(replay(&ALL, text))
+                ..prints(replay(&ALL, text))
             }));
         }
     }

@@ -20,9 +20,9 @@ use crate::kinds::trees::inputs::LATER;
 use crate::kinds::trees::{Tree, built, others};
 use crate::random::Random;
 
-/// How many words a record has at most, and one of a large mesh.
-const WORDS: usize = 260;
-const LARGE_WORDS: usize = 600;
+/// How many elements the lists of a record have at most, and those of a large mesh.
+const ELEMENTS: usize = 240;
+const LARGE_ELEMENTS: usize = 580;
 
 pub fn records(random: &mut Random) -> Result<Vec<Record>, String> {
     let mut records = kept();
@@ -82,12 +82,12 @@ fn list(random: &mut Random) -> Record {
     of_size(record)
 }
 
-/// The record, unwanted if it is too long. A large mesh may take more words, and is
+/// The record, unwanted if it is too long. A large mesh may take more elements, and is
 /// taken for its size alone.
 fn of_size(record: Record) -> Record {
     match record.shows.iter().any(|what| what == "large") {
-        true => record.unwanted().show("large").at_most(LARGE_WORDS),
-        false => record.at_most(WORDS),
+        true => record.unwanted().show("large").at_most(LARGE_ELEMENTS),
+        false => record.at_most(ELEMENTS),
     }
 }
 

@@ -1,7 +1,7 @@
 //! Welding, building and checking in the sample.
 
 use super::record::{
-    BOXES, COORDS, CORNERS, ENDS, ITEMS, Kind, NODES, POINTS, RETURNED, Record, WORK, WRITTEN,
+    BOXES, COORDS, CORNERS, ENDS, ITEMS, Kind, NODES, POINTS, Record, WORK, WRITTEN,
 };
 use super::{LARGE, collect, each, refusals, refused};
 use crate::engine::REFUSAL;
@@ -14,18 +14,19 @@ use crate::kinds::trees::inputs::LATER;
 use crate::kinds::trees::{Tree, building, checking, inputs, others};
 use crate::random::Random;
 
-/// How many words a record has at most, and one of a large mesh.
-const WORDS: usize = 190;
-const LARGE_WORDS: usize = 650;
+/// How many elements the lists of a record have at most, and those of a large mesh.
+const ELEMENTS: usize = 170;
+const LARGE_ELEMENTS: usize = 630;
 
 /// The record of a mesh with so many triangles, unwanted if it is too long. A large
-/// mesh may take more words unless something is refused, and is taken for its size
+/// mesh may take more elements unless something is refused, and is taken for its size
 /// alone.
 fn of_size(record: Record, triangles: usize) -> Record {
-    let answer = record.lists[RETURNED][0];
     match triangles {
-        LARGE.. if answer < REFUSAL => record.unwanted().show("large").at_most(LARGE_WORDS),
-        _ => record.at_most(WORDS),
+        LARGE.. if record.returned < REFUSAL => {
+            record.unwanted().show("large").at_most(LARGE_ELEMENTS)
+        }
+        _ => record.at_most(ELEMENTS),
     }
 }
 

@@ -6,8 +6,8 @@ use crate::kinds::lent::Element;
 use crate::kinds::meshes::Mesh;
 use crate::kinds::trees::Tree;
 
-/// The most words of a record, without the first two.
-pub const WORDS: usize = 1024;
+/// The most places of a buffer.
+pub const PLACES: usize = 511;
 /// A NaN's pattern, which the program takes for no word.
 pub const NONE: u64 = 0xFFF8_0000_0000_0001;
 
@@ -22,12 +22,10 @@ pub const NODES: usize = 5;
 pub const ITEMS: usize = 6;
 pub const WORK: usize = 7;
 pub const ANSWERS: usize = 8;
-/// The place of the list that has the number returned alone.
-pub const RETURNED: usize = 9;
+/// How many buffers there are.
+pub const BUFFERS: usize = 9;
 /// What is written at the front of the buffers: the first of these lists.
-pub const WRITTEN: usize = 10;
-/// How many lists there are.
-pub const LISTS: usize = 19;
+pub const WRITTEN: usize = BUFFERS;
 
 /// What a record calls.
 #[derive(Clone, Copy, Debug, PartialEq, Eq)]
@@ -50,7 +48,7 @@ impl Kind {
         Self::Root,
     ];
 
-    /// What the program calls these records.
+    /// What these records are called.
     pub fn name(self) -> &'static str {
         match self {
             Self::Shape => "shapes",
@@ -67,8 +65,9 @@ impl Kind {
 #[derive(Clone)]
 pub struct Record {
     pub kind: Kind,
-    /// The buffers before the call, the number returned, and what is written.
-    pub lists: [Vec<u64>; LISTS],
+    /// The buffers before the call, and what is written at the front of each.
+    pub lists: [Vec<u64>; 2 * BUFFERS],
+    pub returned: u64,
     /// What the record is taken for.
     pub shows: Vec<String>,
 }
@@ -78,9 +77,9 @@ impl Record {
         Self {
             kind,
             lists: Default::default(),
+            returned: 0,
             shows: Vec::new(),
         }
-        .returned(0)
     }
 
     /// The record with this for a list.
@@ -112,8 +111,9 @@ impl Record {
     }
 
     /// What the call returns.
-    pub fn returned(self, answer: u64) -> Self {
-        self.list(RETURNED, &[answer])
+    pub fn returned(mut self, answer: u64) -> Self {
+        self.returned = answer;
+        self
     }
 
     pub fn show(mut self, what: impl Into<String>) -> Self {
@@ -127,26 +127,37 @@ impl Record {
         self
     }
 
-    /// The record, unwanted if it has more words than this.
-    pub fn at_most(self, words: usize) -> Self {
-        match self.words().len() {
-            n if n > words => self.unwanted(),
+    /// The record, unwanted if its lists have more elements than this.
+    pub fn at_most(self, elements: usize) -> Self {
+        match self.lists.iter().map(Vec::len).sum::<usize>() {
+            n if n > elements => self.unwanted(),
             _ => self,
         }
     }
 
-    /// Its words: of each list the length and the elements.
+    /// What a buffer holds after the call.
+    pub fn after(&self, buffer: usize) -> Vec<u64> {
+        let (before, written) = (&self.lists[buffer], &self.lists[WRITTEN + buffer]);
+        [written, &before[written.len()..]].concat()
+    }
+
+    /// Its words behind the kind: how many places each buffer has, what they hold before
+    /// the call, what it returns, and what they hold after it.
     pub fn words(&self) -> Vec<u64> {
-        let words = |list: &Vec<u64>| [&[list.len() as u64], &list[..]].concat();
-        self.lists.iter().flat_map(words).collect()
+        let before = &self.lists[..BUFFERS];
+        let mut words: Vec<u64> = before.iter().map(|list| list.len() as u64).collect();
+        words.extend(before.iter().flatten());
+        words.push(self.returned);
+        words.extend((0..BUFFERS).flat_map(|buffer| self.after(buffer)));
+        words
     }
 
     /// Whether the program can be given the record.
     pub fn fits(&self) -> bool {
-        let words = self.words();
+        let mut before = self.lists[..BUFFERS].iter();
         let mut floats = self.lists[..CORNERS].iter().flatten();
-        words.len() <= WORDS
-            && !words.contains(&NONE)
+        before.all(|list| list.len() <= PLACES)
+            && !self.words().contains(&NONE)
             && !floats.any(|bits| f64::from_bits(*bits).is_nan())
     }
 
@@ -158,7 +169,7 @@ impl Record {
 
 /// A line of these words.
 pub fn line(kind: u64, words: &[u64]) -> String {
-    let mut text = format!("{kind:016x} {:016x}", words.len());
+    let mut text = format!("{kind:016x}");
     for word in words {
         write!(text, " {word:016x}").expect("a string takes it");
     }
@@ -172,19 +183,19 @@ mod tests {
 
     #[test]
     fn a_record_is_a_line_of_words() {
-        assert_eq!(line(3, &[]), "0000000000000003 0000000000000000\n");
+        assert_eq!(line(3, &[]), "0000000000000003\n");
         assert_eq!(
             line(1, &[1.0f64.to_bits()]),
-            "0000000000000001 0000000000000001 3ff0000000000000\n"
+            "0000000000000001 3ff0000000000000\n"
         );
         let record = Record::new(Kind::Building)
             .list(COORDS, &[-0.0])
             .room(ANSWERS, 2)
+            .list(WRITTEN + ANSWERS, &[1u8])
             .returned(3);
         let words = record.words();
-        assert_eq!(words[..4], [1, 1 << 63, 0, 0]);
-        assert_eq!(words[9..14], [2, 7, 7, 1, 3]);
-        assert_eq!(words[14..], [0; 9]);
+        assert_eq!(words[..BUFFERS], [1, 0, 0, 0, 0, 0, 0, 0, 2]);
+        assert_eq!(words[BUFFERS..], [1 << 63, 7, 7, 3, 1 << 63, 1, 7]);
     }
 
     #[test]
@@ -194,7 +205,7 @@ mod tests {
         assert!(record().list(COORDS, &[f64::INFINITY]).fits());
         assert!(!record().list(COORDS, &[f64::NAN]).fits());
         assert!(!record().list(WORK, &[NONE]).fits());
-        assert!(record().room(CORNERS, 1004).fits());
-        assert!(!record().room(CORNERS, 1005).fits());
+        assert!(record().room(CORNERS, PLACES).fits());
+        assert!(!record().room(CORNERS, PLACES + 1).fits());
     }
 }

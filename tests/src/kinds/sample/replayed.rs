@@ -1,99 +1,91 @@
 //! A stand-in for the program `csx_answers`, which calls the engine. Each of its tests
 //! can be left out.
 
+use super::check::printed;
 use super::record::{
-    BOXES, COORDS, CORNERS, ENDS, ITEMS, Kind, LISTS, NODES, NONE, POINTS, RETURNED, WORK, WRITTEN,
+    ANSWERS, BOXES, BUFFERS, COORDS, CORNERS, ENDS, ITEMS, NODES, NONE, PLACES, POINTS, WORK,
 };
 use crate::engine::lists::List;
 use crate::engine::meshes::{Mesh, Welded, from_triangles};
 use crate::engine::trees::Tree;
-use crate::engine::{Point, Shape, answer, lists, root, trees};
+use crate::engine::{Point, Shape, answer, lists as engine_lists, root, trees};
 use crate::kinds::lent::Element;
 
 /// What the program looks at.
 #[derive(Clone, Copy)]
 pub struct Tests {
+    /// the number returned
     pub returned: bool,
-    pub written: bool,
-    pub behind: bool,
+    /// what the buffers hold after the call
+    pub held: bool,
     pub digits: bool,
-    pub values: bool,
+    /// whether a buffer can hold what is put there before the call, and after it
+    pub before: bool,
+    pub after: bool,
     pub kinds: bool,
-    pub surplus: bool,
+    pub sizes: bool,
     pub end: bool,
 }
 
 pub const ALL: Tests = Tests {
     returned: true,
-    written: true,
-    behind: true,
+    held: true,
     digits: true,
-    values: true,
+    before: true,
+    after: true,
     kinds: true,
-    surplus: true,
+    sizes: true,
     end: true,
 };
 
 /// What the program prints for this input.
 pub fn replay(tests: &Tests, text: &[u8]) -> String {
-    let mut counts = [[0; 2]; 6];
-    let mut unreadable = 0;
+    let [mut equal, mut different, mut unreadable] = [0; 3];
     for line in text.split_inclusive(|byte| *byte == b'\n') {
         match record(tests, line) {
-            Some((kind, equal)) => counts[kind][usize::from(!equal)] += 1,
-            None if tests.end || line.ends_with(b"\n") => unreadable += 1,
-            None => {}
+            Some(true) => equal += 1,
+            Some(false) => different += 1,
+            None => {
+                unreadable += u64::from(tests.end || line.ends_with(b"\n"));
+                break;
+            }
         }
     }
-    let line = |(kind, [equal, different]): (Kind, [u64; 2])| {
-        let all = equal + different;
-        format!(
-            "{} {all} equal {equal} different {different}\n",
-            kind.name()
-        )
-    };
-    let lines: String = Kind::ALL.into_iter().zip(counts).map(line).collect();
-    format!("{lines}unreadable {unreadable}\n")
+    printed(equal, different, unreadable)
 }
 
-/// The place of a record's kind and whether the engine does what the record says, if
-/// it can be read.
-fn record(tests: &Tests, line: &[u8]) -> Option<(usize, bool)> {
+/// Whether the engine does what a record says, if it can be read.
+fn record(tests: &Tests, line: &[u8]) -> Option<bool> {
     let line = line.strip_suffix(b"\n")?;
     let words = line.split(|byte| *byte == b' ');
     let words: Vec<u64> = words
         .map(|word| number(tests, word))
         .collect::<Option<_>>()?;
-    let [kind, count, words @ ..] = &words[..] else {
-        return None;
-    };
-    let mut rest = words;
-    let kind = match kind {
-        1..=6 => *kind,
+    let mut rest = &words[..];
+    let kind = match *rest.split_off_first()? {
+        kind @ 1..=6 => kind,
         _ if tests.kinds => return None,
         _ => 1,
     };
-    if *count != rest.len() as u64 {
-        return None;
-    }
-    let lists = (0..LISTS).map(|_| list(&mut rest));
-    let lists: Vec<&[u64]> = lists.collect::<Option<_>>()?;
-    if tests.surplus && !rest.is_empty() {
-        return None;
-    }
-    let [returned] = lists[RETURNED] else {
-        return None;
+    let sizes = rest.split_off(..BUFFERS)?;
+    let size = |size: &u64| match usize::try_from(*size).ok()? {
+        size if size <= PLACES => Some(size),
+        _ if tests.sizes => None,
+        _ => Some(0),
     };
-    let (before, written) = (&lists[..RETURNED], &lists[WRITTEN..]);
-    let mut buffers = Buffers::new(before);
-    if tests.values && buffers.words() != before {
+    let sizes: Vec<usize> = sizes.iter().map(size).collect::<Option<_>>()?;
+    let before = lists(&mut rest, &sizes)?;
+    let returned = *rest.split_off_first()?;
+    let after = lists(&mut rest, &sizes)?;
+    let mut buffers = Buffers::new(&before);
+    if tests.before && buffers.words() != before
+        || tests.after && Buffers::new(&after).words() != after
+    {
         return None;
     }
-    let equal = buffers.call(kind)? == *returned || !tests.returned;
-    let left = buffers.words();
-    let mut left = left.iter().zip(before).zip(written);
-    let same = left.all(|((now, before), written)| same(tests, now, before, written));
-    Some((kind as usize - 1, equal && same))
+    let equal = buffers.call(kind)? == returned || !tests.returned;
+    let same = buffers.words() == after || !tests.held;
+    Some(equal && same)
 }
 
 fn number(tests: &Tests, word: &[u8]) -> Option<u64> {
@@ -106,19 +98,10 @@ fn number(tests: &Tests, word: &[u8]) -> Option<u64> {
     (number != NONE).then_some(number)
 }
 
-/// The next list of a record.
-fn list<'a>(rest: &mut &'a [u64]) -> Option<&'a [u64]> {
-    let length = rest.split_off_first()?;
-    rest.split_off(..usize::try_from(*length).ok()?)
-}
-
-/// Whether a buffer begins with what is written and is otherwise as it was.
-fn same(tests: &Tests, now: &[u64], before: &[u64], written: &[u64]) -> bool {
-    if written.len() > now.len() {
-        return false;
-    }
-    let (front, behind) = now.split_at(written.len());
-    (front == written || !tests.written) && (*behind == before[written.len()..] || !tests.behind)
+/// The next lists of a record, of these sizes.
+fn lists<'a>(rest: &mut &'a [u64], sizes: &[usize]) -> Option<Vec<&'a [u64]>> {
+    let list = |size: &usize| rest.split_off(..*size);
+    sizes.iter().map(list).collect()
 }
 
 /// The buffers, those of each type in their order.
@@ -138,7 +121,7 @@ impl Buffers {
             floats: [COORDS, BOXES, POINTS].map(|place| buffer(lists[place])),
             numbers: [CORNERS, ENDS, NODES, ITEMS].map(|place| buffer(lists[place])),
             work: buffer(lists[WORK]),
-            answers: buffer(lists[WORK + 1]),
+            answers: buffer(lists[ANSWERS]),
         }
     }
 
@@ -188,7 +171,7 @@ impl Buffers {
             4 => trees::check(&mut mesh, &mut tree, work),
             _ => {
                 let answers = &mut self.answers;
-                lists::contains(&mut mesh, &mut tree, work, &mut List { points, answers })
+                engine_lists::contains(&mut mesh, &mut tree, work, &mut List { points, answers })
             }
         })
     }

@@ -1,9 +1,9 @@
--- `lists::float_of` is safe: without its sign, a NaN is above infinity (`nanBits-above`).
+-- `buffers::float_of` is safe: without its sign, a NaN is above infinity (`nanBits-above`).
 use lib.Ieee.{binary64}
 use lib.Ieee.Bits.{nanBits-above}
 use borrow.Author.Tests.{le-ltb}
-use Rattle.csx_answers.proofs.lists.float_of.Statement.{statement}
-use Rattle.csx_answers.proofs.lists.float_of.Tie as tie
+use Rattle.csx_answers.proofs.buffers.float_of.Statement.{statement}
+use Rattle.csx_answers.proofs.buffers.float_of.Tie as tie
 
 returns : tie.Need-returns
 returns c = tt

@@ -1,7 +1,7 @@
--- `lists::bits_of` is safe: bits are asked of what is no NaN.
+-- `buffers::bits_of` is safe: bits are asked of what is no NaN.
 use Rattle.float.specs.Patterns.{no-nan}
-use Rattle.csx_answers.proofs.lists.bits_of.Statement.{statement}
-use Rattle.csx_answers.proofs.lists.bits_of.Tie as tie
+use Rattle.csx_answers.proofs.buffers.bits_of.Statement.{statement}
+use Rattle.csx_answers.proofs.buffers.bits_of.Tie as tie
 
 returns : tie.Need-returns
 returns c = tt
