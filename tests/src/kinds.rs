@@ -36,12 +36,11 @@ fn pairs(plan: &Plan, kind: &str, times: u64) -> impl Iterator<Item = (f64, f64)
 #[cfg(test)]
 mod tests {
     use crate::plan::Plan;
-    use crate::report::Report;
+    use crate::report::{Report, first};
 
     /// Whether this comparison, of few inputs, fails.
     pub fn fails(compare: impl FnOnce(&mut Report, &Plan)) -> bool {
         let mut report = Report::new();
-        compare(&mut report, &Plan::tiny());
-        report.failed()
+        first::difference(|| compare(&mut report, &Plan::tiny())) || report.failed()
     }
 }

@@ -96,6 +96,8 @@ impl Kind {
 
     #[cold]
     fn differ<R: Value>(&mut self, got: R, want: R, input: impl Fn() -> String) {
+        #[cfg(test)]
+        first::end_here();
         self.differed += 1;
         if self.shown.len() < SHOWN {
             self.shown.push(format!(
@@ -127,6 +129,38 @@ impl fmt::Display for Kind {
             write!(f, "\n    {line}")?;
         }
         Ok(())
+    }
+}
+
+/// Comparisons that end at their first difference, for unit tests that ask only whether
+/// there is one.
+#[cfg(test)]
+pub mod first {
+    use std::cell::Cell;
+    use std::panic::{AssertUnwindSafe, catch_unwind, resume_unwind};
+
+    thread_local! {
+        static ENDS: Cell<bool> = const { Cell::new(false) };
+    }
+
+    struct Difference;
+
+    /// Runs a comparison up to its first difference. Whether there is one.
+    pub fn difference(compare: impl FnOnce()) -> bool {
+        ENDS.set(true);
+        let ended = catch_unwind(AssertUnwindSafe(compare));
+        ENDS.set(false);
+        match ended {
+            Ok(()) => false,
+            Err(why) if why.is::<Difference>() => true,
+            Err(why) => resume_unwind(why),
+        }
+    }
+
+    pub(super) fn end_here() {
+        if ENDS.get() {
+            resume_unwind(Box::new(Difference));
+        }
     }
 }
 
