@@ -147,14 +147,18 @@ fn refusal(number: usize) -> String {
     format!("refusal {number}")
 }
 
-/// Fails a report that lacks a count of the closed list, or of a refusal.
-pub fn need_all(report: &mut Report, port: bool) {
+/// Fails a report that lacks a count of the closed list.
+pub fn need_differences(report: &mut Report, port: bool) {
     let rows = ROWS
         .iter()
         .filter(|row| row.needed && !(port && row.changed));
     for name in rows.flat_map(|row| row.names) {
         report.need(name);
     }
+}
+
+/// Fails a report that lacks a count of a refusal.
+pub fn need_refusals(report: &mut Report) {
     for number in 1..=QUESTIONS.len() {
         report.need(&refusal(number));
     }
@@ -423,7 +427,8 @@ mod tests {
             let times = u64::from(name != left_out);
             report.count(name, times);
         }
-        need_all(&mut report, port);
+        need_differences(&mut report, port);
+        need_refusals(&mut report);
         report.failed()
     }
 

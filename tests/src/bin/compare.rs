@@ -10,17 +10,17 @@ use zirwennach_tests::kinds::{
 };
 use zirwennach_tests::plan::{DEFAULT_SEED, Plan};
 use zirwennach_tests::report::Report;
-use zirwennach_tests::summary::{Run, need_all};
+use zirwennach_tests::summary::{Run, need_differences, need_refusals};
 
 /// Whether csx has the changes of the closed list.
 const PORT: bool = cfg!(feature = "port");
 
-/// What is asked for: the size by its name, whether the square root is compared, and
-/// the file for the counts.
+/// What is asked for: the size by its name, whether only that is compared which csx has
+/// a part in, and the file for the counts.
 struct Asked<'a> {
     size: &'a str,
     plan: Plan,
-    roots: bool,
+    csx_alone: bool,
     counts: Option<&'a str>,
 }
 
@@ -28,7 +28,7 @@ fn main() -> ExitCode {
     let arguments: Vec<String> = env::args().skip(1).collect();
     let arguments: Vec<&str> = arguments.iter().map(|argument| &argument[..]).collect();
     let Some(asked) = asked(&arguments) else {
-        eprintln!("usage: compare quick|large [SEED] [--no-roots] [--counts FILE]");
+        eprintln!("usage: compare quick|large [SEED] [--csx-alone] [--counts FILE]");
         return ExitCode::from(2);
     };
     // Left empty by a run that fails.
@@ -53,9 +53,9 @@ fn asked<'a>(arguments: &[&'a str]) -> Option<Asked<'a>> {
         [front @ .., "--counts", path] => (front, Some(*path)),
         all => (all, None),
     };
-    let (arguments, roots) = match arguments {
-        [front @ .., "--no-roots"] => (front, false),
-        all => (all, true),
+    let (arguments, csx_alone) = match arguments {
+        [front @ .., "--csx-alone"] => (front, true),
+        all => (all, false),
     };
     let (size, seed) = match arguments {
         [size] => (*size, DEFAULT_SEED),
@@ -70,7 +70,7 @@ fn asked<'a>(arguments: &[&'a str]) -> Option<Asked<'a>> {
     Some(Asked {
         size,
         plan,
-        roots,
+        csx_alone,
         counts,
     })
 }
@@ -99,28 +99,36 @@ fn counted(asked: &Asked, report: &Report) -> Run {
 /// The kinds on a subject.
 type Kinds = fn(&mut Report, &Plan);
 
-const SUBJECTS: [(&str, Kinds); 8] = [
-    ("number functions", number_functions),
-    ("shapes", all_shapes),
-    ("meshes", all_meshes),
-    ("welding", welding),
-    ("trees built", trees_built),
-    ("trees checked", trees_checked),
-    ("lists", all_lists),
-    ("column texts", column_texts),
+/// For each subject the kinds that csx has a part in, and the others.
+const SUBJECTS: [(&str, Option<Kinds>, Option<Kinds>); 9] = [
+    ("square root", None, Some(square_root)),
+    (
+        "number functions",
+        Some(min_and_max),
+        Some(number_functions),
+    ),
+    ("shapes", Some(all_shapes), None),
+    ("meshes", Some(all_meshes), None),
+    ("welding", Some(welding), None),
+    ("trees built", Some(trees_built), None),
+    ("trees checked", None, Some(trees_checked)),
+    ("lists", Some(answered_lists), Some(other_lists)),
+    ("column texts", Some(answered_texts), Some(other_texts)),
 ];
 
 fn run(asked: &Asked) -> Report {
     let mut report = Report::new();
-    if asked.roots {
-        report.begin("square root");
-        square_root(&mut report, &asked.plan);
-    }
-    for (subject, kinds) in SUBJECTS {
+    for (subject, of_csx, others) in SUBJECTS {
         report.begin(subject);
-        kinds(&mut report, &asked.plan);
+        let others = others.filter(|_| !asked.csx_alone);
+        for kinds in [of_csx, others].into_iter().flatten() {
+            kinds(&mut report, &asked.plan);
+        }
     }
-    need_all(&mut report, PORT);
+    need_differences(&mut report, PORT);
+    if !asked.csx_alone {
+        need_refusals(&mut report);
+    }
     report
 }
 
@@ -131,9 +139,12 @@ fn square_root(report: &mut Report, plan: &Plan) {
     corrections::compare(report, plan, &engine::SIGNIFICAND);
 }
 
-fn number_functions(report: &mut Report, plan: &Plan) {
+fn min_and_max(report: &mut Report, plan: &Plan) {
     rules::min(report, plan, engine::min);
     rules::max(report, plan, engine::max);
+}
+
+fn number_functions(report: &mut Report, plan: &Plan) {
     rules::abs(report, plan, engine::abs);
     rules::clamp(report, plan, engine::clamp);
     rules::is_finite(report, plan, engine::is_finite);
@@ -177,16 +188,22 @@ fn trees_checked(report: &mut Report, plan: &Plan) {
     trees::checking::large(report, plan, engine::trees::check);
 }
 
-fn all_lists(report: &mut Report, plan: &Plan) {
+fn answered_lists(report: &mut Report, plan: &Plan) {
     lists::cases::compare(report, plan, engine::lists::contains);
     lists::answers::compare(report, plan, engine::lists::contains);
     lists::answers::large(report, plan, engine::lists::contains);
+}
+
+fn other_lists(report: &mut Report, plan: &Plan) {
     lists::rewritings::compare(report, plan, engine::lists::contains);
     lists::refusals::compare(report, plan, engine::lists::contains);
 }
 
-fn column_texts(report: &mut Report, plan: &Plan) {
+fn answered_texts(report: &mut Report, plan: &Plan) {
+    columns::answers::compare(report, plan, engine::columns::point_list);
+}
+
+fn other_texts(report: &mut Report, plan: &Plan) {
     columns::changes::compare(report, plan, engine::columns::point_list);
     columns::limits::compare(report, plan, engine::columns::point_list);
-    columns::answers::compare(report, plan, engine::columns::point_list);
 }
