@@ -1,13 +1,11 @@
--- The builder (document 01): questions 1 to 6, what is written into the lent lists, and what its steps promise to each other. Definitions only.
-use Prim.Native.Nat.{ℕ, _+_, _*_, _≤_, _<_}
+-- The builder (document 01): questions 1 to 6, what is written into the lent lists, and what the tree over all triangles asks for. Definitions only.
+use Prim.Native.Nat.{ℕ, _*_, _≤_, _<_}
 use mathlib.Core.Path.{_≡_}
 use mathlib.Core.Bool.{Bool, _&&_}
 use mathlib.Core.List.{List}
 use lib.Dec.{leb}
 use lib.Ieee.{Float}
 use lib.ListN.{length}
-use lib.Seq.{sets}
-use Rattle.keys.specs.Sorting.{sorted}
 use Rattle.lent.specs.Over.{over}
 use Rattle.refusal.specs.declared.Refusal.the-variants as Refusals
 use Rattle.refusal.specs.declared.Verdict.{Verdict}
@@ -17,11 +15,9 @@ use Rattle.mesh_questions.specs.Questions.{askMesh}
 use Rattle.mesh_questions.specs.Accepted.{Accepted}
 use Rattle.mesh.specs.Mesh.{Mesh, triangleCount}
 use Rattle.bvh.specs.declared.build.Built.{Built}
-use Rattle.bvh.specs.declared.build.Subtree.{Subtree}
 use Rattle.bvh.specs.declared.build.Built.the-variants.{Refused, Nodes}
 use Rattle.tree.specs.Tree.{nodeCount}
-use Rattle.mesh.specs.Items.{Items}
-use Rattle.builder.specs.Builder.{nodeBox, treeOver, size, boxList, nodeList, itemList, layout}
+use Rattle.builder.specs.Builder.{layout}
 
 -- ---- the public entry
 
@@ -49,16 +45,7 @@ pub record Builds (m : Mesh) (boxes₀ : List Float) (nodes₀ items₀ : List �
   pub nodes : nodes₁ ≡ over (written (verdict m boxes₀ nodes₀ items₀) (layout m .nodes)) nodes₀
   pub items : items₁ ≡ over (written (verdict m boxes₀ nodes₀ items₀) (layout m .items)) items₀
 
--- ---- a node
-
--- there is room for the subtree over items in lists of these lengths, from node n and item place i on, and its numbers are small
-pub record Room (m : Mesh) (sides boxes nodes : ℕ) (items : List ℕ) (n i : ℕ) : Type 0 where
-  pub given : Items m sides items
-  pub some : 0 < length items
-  pub for-boxes : 6 * (n + size (treeOver m (sorted items))) ≤ boxes
-  pub for-nodes : 2 * (n + size (treeOver m (sorted items))) ≤ nodes
-  pub few-nodes : n + size (treeOver m (sorted items)) ≤ 262144
-  pub few-items : i + length items ≤ 262144
+-- ---- the whole tree
 
 -- an accepted mesh has triangles, an item place for each, and room for six floats and two node numbers for each
 pub record Whole (m : Mesh) (boxes nodes items : ℕ) : Type 0 where
@@ -67,11 +54,3 @@ pub record Whole (m : Mesh) (boxes nodes items : ℕ) : Type 0 where
   pub some : 0 < triangleCount m
   pub for-boxes : 6 * triangleCount m ≤ boxes
   pub for-nodes : 2 * triangleCount m ≤ nodes
-
--- what `build_node` promises: the next free node, the root's box, and of each buffer, lent as ₀ and left as ₁, the subtree from node n and item place i on
-pub record Writes (m : Mesh) (boxes₀ : List Float) (nodes₀ items₀ : List ℕ) (n i : ℕ) (result : Subtree) (boxes₁ : List Float) (nodes₁ items₁ : List ℕ) : Type 0 where
-  pub end : result .end ≡ n + size (treeOver m (sorted items₀))
-  pub bounds : result .bounds ≡ nodeBox m (sorted items₀)
-  pub boxes : boxes₁ ≡ sets boxes₀ (6 * n) (boxList (treeOver m (sorted items₀)))
-  pub nodes : nodes₁ ≡ sets nodes₀ (2 * n) (nodeList n i (treeOver m (sorted items₀)))
-  pub items : items₁ ≡ itemList (treeOver m (sorted items₀))

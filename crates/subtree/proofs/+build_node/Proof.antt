@@ -11,20 +11,20 @@ use Rattle.keys.specs.Sorting.{sorted}
 use Rattle.keys.specs.Permutations.{length-permuted}
 use Rattle.mesh.specs.Mesh.{mesh}
 use Rattle.median.specs.MedianTheorem.{splitAxis-lt}
-use Rattle.bvh.specs.BuildLaws.{room-one, left-room, right-room, written-same, written-items, first-bounds, second-bounds, halves-places, small-node, inner-writes}
+use Rattle.subtree.specs.SubtreeLaws.{room-one, left-room, right-room, written-same, written-items, first-bounds, second-bounds, halves-places, small-node, inner-writes}
 use borrow.Fn.Kinds.{In}
 use borrow.Fn.PlainCycle.{Measures, is, falls, and}
-use Rattle.bvh.proofs.build.build_node.Reads as build-node
-use Rattle.bvh.proofs.build.build_node.Kinds as build-node-kinds
-use Rattle.bvh.proofs.build.+build_node.Lts-build_node as build-node-lts
-use Rattle.bvh.proofs.build.build_leaf.Reads as build-leaf-reads
-use Rattle.bvh.proofs.build.put_box.Reads as put-box-reads
-use Rattle.bvh.proofs.build.put_node.Reads as put-node-reads
+use Rattle.subtree.proofs.build_node.Reads as build-node
+use Rattle.subtree.proofs.build_node.Kinds as build-node-kinds
+use Rattle.subtree.proofs.+build_node.Lts-build_node as build-node-lts
+use Rattle.subtree.proofs.build_leaf.Reads as build-leaf-reads
+use Rattle.subtree.proofs.put_box.Reads as put-box-reads
+use Rattle.subtree.proofs.put_node.Reads as put-node-reads
 use Rattle.extent.proofs.inner_box.Reads as inner-box-reads
 use Rattle.extent.proofs.split_of.Reads as split-of-reads
 use Rattle.median.proofs.halve.Reads as halve-reads
-use Rattle.bvh.proofs.build.+build_node.{statement}
-use Rattle.bvh.proofs.build.+build_node.Tie.{close}
+use Rattle.subtree.proofs.+build_node.{statement}
+use Rattle.subtree.proofs.+build_node.Tie.{close}
 
 abbrev μ-build-node : Measures 6 build-node-kinds.ps ℕ
 μ-build-node κs a = length (a .1 .1 .1 .1 .1 .1 .0 .now)

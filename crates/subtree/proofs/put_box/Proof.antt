@@ -5,8 +5,8 @@ use native.Mathlib.Omega.{arith}
 use mathlib.Core.Path.{_≡_}
 use lib.ListN.{length-set}
 use borrow.Author.Needs.{needs}
-use Rattle.bvh.proofs.build.put_box.Statement.{statement}
-use Rattle.bvh.proofs.build.put_box.Tie as tie
+use Rattle.subtree.proofs.put_box.Statement.{statement}
+use Rattle.subtree.proofs.put_box.Tie as tie
 
 mul-boxes : tie.Need-mul-boxes
 mul-boxes c = search needs

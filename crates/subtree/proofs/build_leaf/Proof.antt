@@ -7,9 +7,9 @@ use Rattle.keys.specs.SortingTheorems.{length-sorted, sorted-permutation}
 use Rattle.mesh.specs.Mesh.{mesh}
 use Rattle.median.specs.Node.{items-permuted}
 use Rattle.builder.specs.Builder.{nodeBox}
-use Rattle.bvh.specs.BuildLaws.{room-one, leaf-writes}
-use Rattle.bvh.proofs.build.build_leaf.Statement.{statement}
-use Rattle.bvh.proofs.build.build_leaf.Tie as tie
+use Rattle.subtree.specs.SubtreeLaws.{room-one, leaf-writes}
+use Rattle.subtree.proofs.build_leaf.Statement.{statement}
+use Rattle.subtree.proofs.build_leaf.Tie as tie
 
 sort-items-requires : tie.Need-sort-items-requires
 sort-items-requires c κs = search needs

@@ -2,8 +2,8 @@
 use native.Mathlib.Omega.{arith}
 use lib.ListN.{length-set}
 use borrow.Author.Needs.{needs}
-use Rattle.bvh.proofs.build.put_node.Statement.{statement}
-use Rattle.bvh.proofs.build.put_node.Tie as tie
+use Rattle.subtree.proofs.put_node.Statement.{statement}
+use Rattle.subtree.proofs.put_node.Tie as tie
 
 cast-nodes : tie.Need-cast-nodes
 cast-nodes c = search needs
