@@ -30,10 +30,11 @@ use Rattle.text.specs.LineLaws.{lineAt, length-lines, lines-take, lines-drop, s
 use Rattle.text.specs.Accepted.{Accepted, accepted, isGood, numbersFit, good-line}
 use Rattle.listing.specs.Listing.{listingText, listingLength}
 use Rattle.listing.specs.ListingLaws.{length-listing}
+use Rattle.answers.specs.Answers.{Few}
 use Rattle.column.specs.declared.Listed.{Listed}
 use Rattle.column.specs.declared.Listed.the-variants as Answers
 use Rattle.column.specs.Column.{meshOf, pointsOf, askColumn, columnVerdict, columnListing, judged, verdict, columnAnswer, listed, Lists}
-use Rattle.column.specs.Sections.{Few, ListsAnswers}
+use Rattle.column.specs.Sections.{ListsAnswers}
 use Rattle.numbers.specs.Numbers.{floatOf, cornerOf, numbersOf, endsFrom, Whole}
 use Rattle.numbers.specs.NumberLaws.{length-numbers, length-ends, finite-section}
 

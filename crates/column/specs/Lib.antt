@@ -1,5 +1,4 @@
 -- The definitions of crate `column`, and their laws.
 pub mod Column
 pub mod Sections
-pub mod AnswerLaws
 pub mod CallLaws

@@ -1,10 +1,9 @@
 // The column call: column text to a listing of answers (document 01, Column text). The definitions are in specs/.
-pub mod answers;
-
 ghost use mathlib.Core.Path.{_≡_};
 ghost use lib.ListN.{length};
 ghost use Rattle.mesh.specs.Mesh as Mesh;
 ghost use Rattle.text.specs.declared.Judged.the-variants as Judgements;
+ghost use Rattle.answers.specs.Answers.{Few};
 ghost use Rattle.column.specs.Column as Column;
 ghost use Rattle.column.specs.Sections as Sections;
 use mesh_questions::Asked;
@@ -27,7 +26,7 @@ fn list_answers(
     answers: &mut [u8],
     listing: &mut [u8],
 ) -> Listed
-    requires { ⌜ Sections.Few (Mesh.mesh (now coords) (now corners) (now ends)) (now points) (length (now answers)) ⌝ }
+    requires { ⌜ Few (Mesh.mesh (now coords) (now corners) (now ends)) (now points) (length (now answers)) ⌝ }
     ensures { λ r. ⌜ Sections.ListsAnswers (Mesh.mesh (now (coords .entry)) (now (corners .entry)) (now (ends .entry))) (now (points .entry)) (length (now (answers .entry))) (now (listing .entry)) r (now (listing .exit)) ⌝ }
 {
     let asked = mesh_questions::ask_mesh(coords, corners, ends);

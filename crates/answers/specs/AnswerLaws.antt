@@ -26,7 +26,7 @@ use Rattle.builder.specs.BuilderSize.{nodeCount-le}
 use Rattle.polyhedron.specs.Lists.{askList, listVerdict, answersTo, listAnswer, Contains}
 use Rattle.polyhedron.specs.ListLaws.{length-answersTo, list-passed}
 use Rattle.polyhedron.specs.Demand3Theorem.{demand3}
-use Rattle.column.specs.Sections.{Small, Scratch}
+use Rattle.answers.specs.Answers.{Small, Scratch}
 
 module _ {m : Mesh} {points : List Float} {places : ℕ} (small : Small m points places) where
   -- a triangle a face, and few of them

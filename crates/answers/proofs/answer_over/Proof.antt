@@ -2,10 +2,10 @@
 use native.Mathlib.Omega.{arith}
 use mathlib.Core.Path.{refl}
 use lib.ListN.{length, length-take}
-use Rattle.column.specs.AnswerLaws.{not-refused, few-nodes, boxes-found, node-numbers-found, items-found, answers-found}
+use Rattle.answers.specs.AnswerLaws.{not-refused, few-nodes, boxes-found, node-numbers-found, items-found, answers-found}
 use borrow.Author.Needs.{needs}
-use Rattle.column.proofs.answers.answer_over.Statement.{statement}
-use Rattle.column.proofs.answers.answer_over.Tie as tie
+use Rattle.answers.proofs.answer_over.Statement.{statement}
+use Rattle.answers.proofs.answer_over.Tie as tie
 
 build-requires : tie.Need-build-requires
 build-requires c κs = search needs

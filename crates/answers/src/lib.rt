@@ -1,10 +1,10 @@
-// The answers to the points of a column text: the builder's tree, and the list answer over it. The promises are in
-// specs/Sections.antt.
+// The answers to the points of a small mesh: the builder's tree, and the list answer over it. What they ask for is in
+// specs/Answers.antt.
 ghost use mathlib.Core.Path.{_≡_};
 ghost use lib.ListN.{length};
 ghost use Rattle.mesh.specs.Mesh as Mesh;
 ghost use Rattle.polyhedron.specs.Lists as Lists;
-ghost use Rattle.column.specs.Sections as Sections;
+ghost use Rattle.answers.specs.Answers.{Small, Scratch};
 use bvh::build::Built;
 
 // Builds the tree of a small accepted mesh in the lent lists, and writes the answer to each point.
@@ -19,7 +19,7 @@ fn answer_over(
     points: &[f64],
     answers: &mut [u8],
 )
-    requires { ⌜ Sections.Small (Mesh.mesh (now coords) (now corners) (now ends)) (now points) (length (now answers)) × Sections.Scratch (length (now boxes)) (length (now nodes)) (length (now items)) (length (now work)) ⌝ }
+    requires { ⌜ Small (Mesh.mesh (now coords) (now corners) (now ends)) (now points) (length (now answers)) × Scratch (length (now boxes)) (length (now nodes)) (length (now items)) (length (now work)) ⌝ }
     ensures { λ _. ⌜ now (answers .exit) ≡ Lists.answersTo (Mesh.mesh (now (coords .entry)) (now (corners .entry)) (now (ends .entry))) (now (points .entry)) ⌝ }
 {
     let built = bvh::build::build(coords, corners, ends, boxes, nodes, items);
@@ -46,7 +46,7 @@ pub fn answer_points(
     points: &[f64],
     answers: &mut [u8],
 )
-    requires { ⌜ Sections.Small (Mesh.mesh (now coords) (now corners) (now ends)) (now points) (length (now answers)) ⌝ }
+    requires { ⌜ Small (Mesh.mesh (now coords) (now corners) (now ends)) (now points) (length (now answers)) ⌝ }
     ensures { λ _. ⌜ now (answers .exit) ≡ Lists.answersTo (Mesh.mesh (now (coords .entry)) (now (corners .entry)) (now (ends .entry))) (now (points .entry)) ⌝ }
 {
     let mut boxes = [0.0; 3072];
