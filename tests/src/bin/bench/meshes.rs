@@ -41,7 +41,7 @@ pub fn run(table: &mut Table) {
 fn prepare(table: &mut Table, name: &str, mut mesh: Mesh) {
     let faces: Vec<Vec<u32>> = mesh.faces().map(<[_]>::to_vec).collect();
     let mut work = vec![0; mesh.corners.len()];
-    let mut out = [0.0; 7];
+    let mut out = [0.0; 13];
     let mut lists = mesh.lend();
     let mut closed = 0;
     let mut closed_by_csx = false;

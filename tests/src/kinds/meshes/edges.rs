@@ -4,7 +4,6 @@
 use csx::primitives::polyhedron::is_closed;
 
 use super::expected::edge_keys;
-use super::questions::counts;
 use super::{Lent, Line, Mesh, Probe};
 use crate::random::Random;
 use crate::report::{Kind, Report};
@@ -47,13 +46,12 @@ pub fn closed(report: &mut Report, probe: Probe<u64>) {
 
 /// Compares how many vertices are taken. csx takes any number: that the engine
 /// does not is on the closed list.
-pub fn vertices(report: &mut Report, probe: Probe<u64>) {
+pub fn vertices(report: &mut Report, probe: Probe<u8>) {
     let mut line = Line::new("document 01's cases, vertices");
     let mut csx = Kind::new("document 01's cases, vertices, taken by csx");
     for (count, want) in VERTICES {
         let mesh = mesh(count, &[[0, 1, 2]]);
-        let buffer = Lent::garbage(3, &mut Random::new(1));
-        line.ask(probe, &mesh, buffer, want, &counts(&mesh));
+        line.ask(probe, &mesh, Lent::new(&[]), want, &[]);
         csx.compare_for(mesh.csx().is_ok(), true, || mesh.text());
     }
     line.add_to(report, &["refusal 1"]);
@@ -78,18 +76,15 @@ mod tests {
     }
 
     /// An engine with this first question.
-    fn by_question(lists: &Lists, out: &mut [u64], first: fn(&Mesh) -> Option<u64>) -> u64 {
-        match first(&Mesh::of(lists)) {
-            Some(refusal) => refusal,
-            None => writes(lists, out, |mesh| counts(mesh).to_vec()),
-        }
+    fn by_question(lists: &Lists, first: fn(&Mesh) -> Option<u64>) -> u64 {
+        first(&Mesh::of(lists)).unwrap_or(0)
     }
 
     fn closed_fails(probe: Probe<u64>) -> bool {
         tests::fails(|report, _| closed(report, probe))
     }
 
-    fn vertices_fail(probe: Probe<u64>) -> bool {
+    fn vertices_fail(probe: Probe<u8>) -> bool {
         tests::fails(|report, _| vertices(report, probe))
     }
 
@@ -102,9 +97,7 @@ mod tests {
             expected::closed
         )));
         assert!(!vertices_fail(engine::meshes::mesh));
-        assert!(!vertices_fail(|lists, out| by_question(
-            lists, out, refusal
-        )));
+        assert!(!vertices_fail(|lists, _| by_question(lists, refusal)));
     }
 
     #[test]
@@ -122,19 +115,18 @@ mod tests {
     #[test]
     fn wrong_limits_of_vertices_fail() {
         // one less, and one more
-        assert!(vertices_fail(|lists, out| by_question(
-            lists,
-            out,
-            |mesh| (mesh.vertex_count() > 65_535).then_some(code(1, 0))
-        )));
-        assert!(vertices_fail(|lists, out| {
+        assert!(vertices_fail(|lists, _| by_question(lists, |mesh| (mesh
+            .vertex_count()
+            > 65_535)
+            .then_some(code(1, 0)))));
+        assert!(vertices_fail(|lists, _| {
             let mut mesh = Mesh::of(lists);
             mesh.coords.truncate(3 * 65_536);
-            by_question(&mesh.lend(), out, refusal)
+            by_question(&mesh.lend(), refusal)
         }));
         // another number
-        assert!(vertices_fail(|lists, out| {
-            match by_question(lists, out, refusal) {
+        assert!(vertices_fail(|lists, _| {
+            match by_question(lists, refusal) {
                 1_000_000 => code(2, 0),
                 answer => answer,
             }

@@ -1,11 +1,10 @@
-//! Questions 1 to 5 and the counts, against document 01, and questions 3 to 5
-//! against csx.
+//! Questions 1 to 5, against document 01, and questions 3 to 5 against csx.
 
 use csx::Error;
 
 use super::expected::{CORNERS, FACES, VERTICES, code, lengths, refusal};
 use super::inputs::{self, Numbers, pick, some_of, torus};
-use super::{Asker, Lent, LentMesh, Mesh, Outcome, Probe, QUESTIONS, ROOM, buffer_length};
+use super::{Asker, Lent, LentMesh, Mesh, Outcome, Probe, QUESTIONS};
 use crate::engine::REFUSAL;
 use crate::plan::Plan;
 use crate::random::{NOT_FINITE, Random};
@@ -22,18 +21,12 @@ const NEEDED_OF_CSX: [&str; 4] = [
 /// What csx is asked.
 const CSX: &str = "3 to 5 by csx";
 
-/// Asks about a mesh, with a buffer for the counts that may be too short.
-fn ask(asker: &mut Asker<Probe<u64>>, mesh: &Mesh) {
-    let length = buffer_length(3, &mut asker.random);
-    let want = match refusal(mesh) {
-        Some(refusal) => refusal,
-        None if length < 3 => ROOM,
-        None => 0,
-    };
-    let buffer = Lent::garbage(length, &mut asker.random);
+/// Asks about a mesh.
+fn ask(asker: &mut Asker<Probe<u8>>, mesh: &Mesh) {
+    let want = refusal(mesh).unwrap_or(0);
     asker
         .rule
-        .ask(asker.function, mesh, buffer, want, &counts(mesh));
+        .ask(asker.function, mesh, Lent::new(&[]), want, &[]);
     if want == 0 {
         asker.rule.see("accepted");
     }
@@ -42,14 +35,9 @@ fn ask(asker: &mut Asker<Probe<u64>>, mesh: &Mesh) {
     }
 }
 
-/// The vertices, faces and triangles.
-pub(super) fn counts(mesh: &Mesh) -> [u64; 3] {
-    [mesh.vertex_count(), mesh.ends.len(), mesh.triangle_count()].map(|n| n as u64)
-}
-
 /// Asks about a mesh that questions 1 and 2 let pass.
-fn ask_csx(asker: &mut Asker<Probe<u64>>, mesh: &Mesh) {
-    let got = (asker.function)(&mut LentMesh::new(mesh).lend(), &mut [0; 3]);
+fn ask_csx(asker: &mut Asker<Probe<u8>>, mesh: &Mesh) {
+    let got = (asker.function)(&mut LentMesh::new(mesh).lend(), &mut []);
     // csx says which vertex is not finite by its coordinates alone.
     let got = if got / REFUSAL == 5 { code(5, 0) } else { got };
     let want = csx_answer(mesh);
@@ -82,7 +70,7 @@ fn csx_answer(mesh: &Mesh) -> u64 {
 
 /// Compares small meshes: with lists of any few lengths, without a fault, and
 /// with each fault and each set of them.
-pub fn compare(report: &mut Report, plan: &Plan, probe: Probe<u64>) {
+pub fn compare(report: &mut Report, plan: &Plan, probe: Probe<u8>) {
     let mut asker = Asker::new(probe, plan, "questions", CSX);
     every_length(&mut |mesh| ask(&mut asker, mesh));
     for _ in 0..plan.times(400_000) {
@@ -96,7 +84,7 @@ pub fn compare(report: &mut Report, plan: &Plan, probe: Probe<u64>) {
         }
         ask(&mut asker, &mesh);
     }
-    asker.add_to(report, &QUESTIONS[..7], &NEEDED_OF_CSX);
+    asker.add_to(report, &QUESTIONS[..6], &NEEDED_OF_CSX);
 }
 
 /// Up to 3 faces with ends up to 7, up to 7 corners and up to 7 coordinates.
@@ -171,7 +159,7 @@ fn spoil_ends(mesh: &mut Mesh, random: &mut Random) {
 }
 
 /// Compares meshes at the limits of questions 1 and 2 and past them.
-pub fn limits(report: &mut Report, plan: &Plan, probe: Probe<u64>) {
+pub fn limits(report: &mut Report, plan: &Plan, probe: Probe<u8>) {
     let mut asker = Asker::new(probe, plan, "questions, limits", CSX);
     for mesh in limit_meshes(&mut asker.random) {
         ask(&mut asker, &mesh);
@@ -253,27 +241,19 @@ mod tests {
     use crate::kinds::tests;
 
     /// An engine with these questions.
-    fn by(lists: &Lists, counts: &mut [u64], refusal: fn(&Mesh) -> Option<u64>) -> u64 {
-        let mesh = Mesh::of(lists);
-        if let Some(refusal) = refusal(&mesh) {
-            return refusal;
-        }
-        if counts.len() < 3 {
-            return ROOM;
-        }
-        counts[..3].copy_from_slice(&super::counts(&mesh));
-        0
+    fn by(lists: &Lists, refusal: fn(&Mesh) -> Option<u64>) -> u64 {
+        refusal(&Mesh::of(lists)).unwrap_or(0)
     }
 
-    fn right(lists: &mut Lists, counts: &mut [u64]) -> u64 {
-        by(lists, counts, refusal)
+    fn right(lists: &mut Lists, _: &mut [u8]) -> u64 {
+        by(lists, refusal)
     }
 
-    fn fails(probe: Probe<u64>) -> bool {
+    fn fails(probe: Probe<u8>) -> bool {
         tests::fails(|report, plan| compare(report, plan, probe))
     }
 
-    fn limits_fail(probe: Probe<u64>) -> bool {
+    fn limits_fail(probe: Probe<u8>) -> bool {
         tests::fails(|report, plan| limits(report, plan, probe))
     }
 
@@ -284,43 +264,9 @@ mod tests {
     }
 
     #[test]
-    fn wrong_counts_and_buffers_are_caught() {
-        // a place past the counts written
-        assert!(fails(|lists, counts| {
-            let answer = right(lists, counts);
-            if answer == 0
-                && let Some(next) = counts.get_mut(3)
-            {
-                *next = 0;
-            }
-            answer
-        }));
-        // counts of a refused mesh
-        assert!(fails(|lists, counts| {
-            counts.iter_mut().for_each(|n| *n = 0);
-            right(lists, counts)
-        }));
-        // the buffer looked at first
-        assert!(fails(|lists, counts| {
-            if counts.len() < 3 {
-                return ROOM;
-            }
-            right(lists, counts)
-        }));
-        // as many triangles as corners allow
-        assert!(fails(|lists, counts| {
-            let answer = right(lists, counts);
-            if answer == 0 {
-                counts[2] = lists.corners.len() as u64 / 3;
-            }
-            answer
-        }));
-    }
-
-    #[test]
     fn wrong_questions_are_caught() {
         // question 4 before 3, each for all faces
-        assert!(fails(|lists, counts| by(lists, counts, |mesh| {
+        assert!(fails(|lists, _| by(lists, |mesh| {
             if lengths(mesh).is_some() {
                 return lengths(mesh);
             }
@@ -331,7 +277,7 @@ mod tests {
             }
         })));
         // question 3 for all faces, and then 4
-        assert!(fails(|lists, counts| by(lists, counts, |mesh| {
+        assert!(fails(|lists, _| by(lists, |mesh| {
             if lengths(mesh).is_some() {
                 return lengths(mesh);
             }
@@ -341,7 +287,7 @@ mod tests {
             }
         })));
         // question 5 before 3 and 4
-        assert!(fails(|lists, counts| by(lists, counts, |mesh| {
+        assert!(fails(|lists, _| by(lists, |mesh| {
             if lengths(mesh).is_some() {
                 return lengths(mesh);
             }
@@ -352,14 +298,14 @@ mod tests {
             }
         })));
         // used vertices alone
-        assert!(fails(|lists, counts| by(lists, counts, |mesh| {
+        assert!(fails(|lists, _| by(lists, |mesh| {
             refusal(mesh).filter(|refusal| {
                 let used = |v: &u32| code(5, *v as usize) == *refusal;
                 refusal / REFUSAL != 5 || mesh.corners.iter().any(used)
             })
         })));
         // the corner's place for the face's
-        assert!(fails(|lists, counts| by(lists, counts, |mesh| {
+        assert!(fails(|lists, _| by(lists, |mesh| {
             let refusal = refusal(mesh)?;
             if refusal / REFUSAL != 4 {
                 return Some(refusal);
@@ -368,13 +314,13 @@ mod tests {
             Some(code(4, mesh.corners.iter().position(out)?))
         })));
         // ends that fall on the way
-        assert!(fails(|lists, counts| by(lists, counts, |mesh| {
+        assert!(fails(|lists, _| by(lists, |mesh| {
             let mut rising = mesh.clone();
             rising.ends.sort_unstable();
             refusal(&rising)
         })));
         // corners without a face
-        assert!(fails(|lists, counts| by(lists, counts, |mesh| {
+        assert!(fails(|lists, _| by(lists, |mesh| {
             refusal(mesh).filter(|_| !mesh.ends.is_empty() || !mesh.coords.len().is_multiple_of(3))
         })));
     }
@@ -382,20 +328,20 @@ mod tests {
     #[test]
     fn wrong_limits_are_caught() {
         // a limit that is one off
-        assert!(limits_fail(|lists, counts| by(lists, counts, |mesh| {
+        assert!(limits_fail(|lists, _| by(lists, |mesh| {
             match mesh.vertex_count() {
                 VERTICES.. => Some(code(1, 0)),
                 _ => refusal(mesh),
             }
         })));
-        assert!(limits_fail(|lists, counts| by(lists, counts, |mesh| {
+        assert!(limits_fail(|lists, _| by(lists, |mesh| {
             match mesh.corners.len() {
                 CORNERS.. => Some(code(2, 0)),
                 _ => refusal(mesh),
             }
         })));
         // no limit of faces
-        assert!(limits_fail(|lists, counts| by(lists, counts, |mesh| {
+        assert!(limits_fail(|lists, _| by(lists, |mesh| {
             let mut fewer = mesh.clone();
             fewer.ends.truncate(FACES);
             if fewer.ends.last() == mesh.ends.last() {

@@ -1,8 +1,8 @@
 //! The triangles of a mesh, against csx.
 
 use super::expected::refusal;
-use super::inputs;
-use super::{Lent, Line, Mesh, Probe, ROOM, buffer_length};
+use super::inputs::{self, pick};
+use super::{Lent, Line, Mesh, Probe};
 use crate::plan::Plan;
 use crate::random::Random;
 use crate::report::Report;
@@ -23,9 +23,8 @@ pub fn compare(report: &mut Report, plan: &Plan, probe: Probe<u32>) {
 
 /// What a line has to see: refusals, and faces of equally many corners, of 3 and
 /// of 4 of which are found in their own ways, and of others.
-const NEEDED: [&str; 6] = [
+const NEEDED: [&str; 5] = [
     "refusal 1",
-    "refusal 6",
     "sides 3",
     "sides 4",
     "sides equal",
@@ -41,17 +40,15 @@ pub fn large(report: &mut Report, plan: &Plan, probe: Probe<u32>) {
             ask(&mut line, probe, &mesh, &mut random);
         }
     }
-    line.add_to(report, &NEEDED[2..]);
+    line.add_to(report, &NEEDED[1..]);
 }
 
 fn ask(line: &mut Line, probe: Probe<u32>, mesh: &Mesh, random: &mut Random) {
     let Some(refusal) = refusal(mesh) else {
         let triangles = mesh.csx().expect("an accepted mesh").triangles().to_vec();
-        let needed = 3 * triangles.len();
-        let length = buffer_length(needed, random);
-        let want = if length < needed { ROOM } else { 0 };
+        let length = 3 * triangles.len() + pick(9, random);
         let buffer = Lent::garbage(length, random);
-        line.ask(probe, mesh, buffer, want, triangles.as_flattened());
+        line.ask(probe, mesh, buffer, 0, triangles.as_flattened());
         line.see(sides(mesh));
         return;
     };
@@ -74,7 +71,7 @@ pub(in crate::kinds) fn sides(mesh: &Mesh) -> &'static str {
 
 #[cfg(test)]
 mod tests {
-    use super::super::{expected, inputs::pick, tests::writes};
+    use super::super::{expected, tests::writes};
     use super::*;
     use crate::engine::meshes::Mesh as Lists;
     use crate::kinds::tests;
