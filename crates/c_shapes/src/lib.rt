@@ -4,10 +4,10 @@ ghost use mathlib.Core.Path.{_≡_};
 ghost use mathlib.Core.List.{[]};
 ghost use Rattle.sqrt.specs.Root as Root;
 ghost use Rattle.math.specs.Vectors.{vec};
-ghost use Rattle.primitives.specs.declared.Shape.the-variants as Shapes;
+ghost use Rattle.shapes.specs.declared.Shape.the-variants as Shapes;
 ghost use Rattle.primitives.specs.Questions.{shapeAnswer, value};
 use math::Vec3;
-use primitives::Shape;
+use shapes::Shape;
 
 // The answer for a shape with the list lent beside it.
 fn asked(shape: Shape, list: &[f64], p: Vec3) -> u64

@@ -10,8 +10,8 @@ use Rattle.math.specs.declared.Vec3.{Vec3}
 use Rattle.math.specs.Vectors.{vec}
 use Rattle.geom.specs.Tolerance.{inRange}
 use Rattle.poly.specs.Planes.{planeAxes}
-use Rattle.primitives.specs.declared.Shape.{Shape}
-use Rattle.primitives.specs.declared.Shape.the-variants.{Sphere, Cylinder, Polygon, Wire}
+use Rattle.shapes.specs.declared.Shape.{Shape}
+use Rattle.shapes.specs.declared.Shape.the-variants.{Sphere, Cylinder, Polygon, Wire}
 use Rattle.primitives.specs.Questions.{shapeAnswer, value}
 use Rattle.mesh.specs.Mesh.{Mesh, mesh}
 use Rattle.edges.specs.Edges.{closed}

@@ -18,7 +18,7 @@ use Rattle.geom.specs.Polygons.{points2, inPolygon, pointInPolygon}
 use Rattle.basic.specs.Round.{insideSphere, axial, inCylinder, insideCylinder}
 use Rattle.curve.specs.Polylines.{distFrom, polylineDist, insideWire}
 use Rattle.poly.specs.Planes.{planeAxes, insidePrism, insidePolygon}
-use Rattle.primitives.specs.Shapes.{inside}
+use Rattle.shapes.specs.Shapes.{inside}
 use Rattle.primitives.specs.Questions.{shapeAnswer, whole, wholeEntries, finiteNumbers, finitePoint, allFinite}
 use Rattle.keys.specs.Sorting.{count, sortedBy, insertBy}
 use Rattle.edges.specs.Edges.{edgeKey, keysFrom, faceKeys, edgeKeys, twiceIn, closed}

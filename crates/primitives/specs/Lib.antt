@@ -1,3 +1,2 @@
 -- The definitions of crate `primitives`.
-pub mod Shapes
 pub mod Questions

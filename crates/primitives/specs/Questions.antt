@@ -14,11 +14,11 @@ use Rattle.math.specs.Vectors as Vectors
 use Rattle.refusal.specs.declared.Refusal.{Refusal}
 use Rattle.refusal.specs.declared.Refusal.the-variants as Refusals
 use Rattle.refusal.specs.Numbers.{code}
-use Rattle.primitives.specs.declared.Shape.{Shape}
-use Rattle.primitives.specs.declared.Shape.the-variants.{Box, CylindricalBox, MultiBox, Sphere, SphericalShell, Cylinder, CylindricalShell, Polygon, LinPoly, Curve, Wire, Point}
+use Rattle.shapes.specs.declared.Shape.{Shape}
+use Rattle.shapes.specs.declared.Shape.the-variants.{Box, CylindricalBox, MultiBox, Sphere, SphericalShell, Cylinder, CylindricalShell, Polygon, LinPoly, Curve, Wire, Point}
+use Rattle.shapes.specs.Shapes.{inside}
 use Rattle.primitives.specs.declared.Answer.{Answer}
 use Rattle.primitives.specs.declared.Answer.the-variants.{Outside, Inside, Refused}
-use Rattle.primitives.specs.Shapes.{inside}
 
 -- the numbers of an entry: polygon 2, wire 3, multi-box 6; 0 for a shape whose list is no list of entries
 abbrev pub entrySize : Shape → ℕ

@@ -1,8 +1,8 @@
 -- `inside` meets its contract: in each arm the shape is the arm's case, and the call promises that case's rule.
-use Rattle.primitives.specs.Shapes.{inside}
+use Rattle.shapes.specs.Shapes.{inside}
 use borrow.Author.Needs.{needs}
-use Rattle.primitives.proofs.inside.Statement.{statement}
-use Rattle.primitives.proofs.inside.Tie as tie
+use Rattle.shapes.proofs.inside.Statement.{statement}
+use Rattle.shapes.proofs.inside.Tie as tie
 
 enum-known-shape : tie.Need-enum-known-shape
 enum-known-shape c = search needs

@@ -8,8 +8,8 @@ use Rattle.basic.specs.Round.{insideSphere, insideSphericalShell, insideCylinde
 use Rattle.curve.specs.Polylines.{insideCurve, insideWire, insidePoint}
 use Rattle.poly.specs.Planes.{insidePolygon, insideLinPoly}
 use Rattle.math.specs.declared.Vec3.{Vec3}
-use Rattle.primitives.specs.declared.Shape.{Shape}
-use Rattle.primitives.specs.declared.Shape.the-variants.{Box, CylindricalBox, MultiBox, Sphere, SphericalShell, Cylinder, CylindricalShell, Polygon, LinPoly, Curve, Wire, Point}
+use Rattle.shapes.specs.declared.Shape.{Shape}
+use Rattle.shapes.specs.declared.Shape.the-variants.{Box, CylindricalBox, MultiBox, Sphere, SphericalShell, Cylinder, CylindricalShell, Polygon, LinPoly, Curve, Wire, Point}
 
 -- whether p lies in the shape, whose points are in the list
 unfoldable pub inside : Shape → List Float → Vec3 → Bool

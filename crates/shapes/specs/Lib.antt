@@ -1,0 +1,2 @@
+-- The definitions of crate `shapes`.
+pub mod Shapes
