@@ -3,9 +3,7 @@ pub mod Tree
 pub mod TreeRules
 pub mod TreeTest
 pub mod TreeTheorem
-pub mod Once
 pub mod Numbers
-pub mod Counting
 pub mod JoinLaws
 pub mod Check
 pub mod Places

@@ -7,10 +7,10 @@ use mathlib.Core.List.{List}
 use lib.ListN.{length, getD}
 use Rattle.keys.specs.Sorting.{count, Permutation}
 use Rattle.keys.specs.SortingTheorems.{le-or-lt, all-of, all-counted, count-cons}
+use Rattle.items.specs.Once.{once-below}
 use Rattle.mesh.specs.Mesh.{Mesh, triangleCount, numbers, allTriangles}
 use Rattle.tree.specs.Tree.{Tree, itemAt}
 use Rattle.tree.specs.TreeRules.{TreeRules}
-use Rattle.tree.specs.Once.{once-below}
 
 pub length-numbers : (first n : ℕ) → length (numbers first n) ≡ n
 unfolding numbers

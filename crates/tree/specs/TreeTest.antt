@@ -1,14 +1,13 @@
 -- The test that computes the tree rules. A node's box is compared with the join of the own boxes below it. Definitions, and the
 -- laws that the code's walk uses; specs/TreeTheorem.antt says that the test and the rules agree.
 use Prim.Native.Nat.{ℕ, zero, suc, _+_, _-_, _*_, _≤_, _<_}
-use mathlib.Core.Bool.{Bool, true, false, cond, _&&_}
+use mathlib.Core.Bool.{Bool, false, cond, _&&_}
 use native.Mathlib.Omega.{arith}
 use mathlib.Core.Path.{_≡_, refl, _∙_}
-use mathlib.Core.List.{List}
 use lib.Dec.{eqb, leb, ltb}
 use lib.ListN.{length}
 use borrow.Author.Tests.{eq-eqb, ne-eqb, lt-ltb, le-ltb}
-use Rattle.keys.specs.Sorting.{count}
+use Rattle.items.specs.Counting.{onceBelow}
 use Rattle.math.specs.declared.BoundingBox.{BoundingBox}
 use Rattle.mesh_questions.specs.Accepted.{Accepted}
 use Rattle.mesh.specs.Fans.{length-fans}
@@ -72,11 +71,6 @@ walk m t (suc depth) n i =
 unfoldable pub endsAt : Walked → ℕ → ℕ → Bool
 endsAt Fault n i = false
 endsAt (Ends node item joined) n i = eqb node n && eqb item i
-
--- whether each of the numbers below k stands once in the list
-unfoldable pub onceBelow : ℕ → List ℕ → Bool
-onceBelow zero items = true
-onceBelow (suc k) items = eqb (count k items) 1 && onceBelow k items
 
 -- no nodes if there are no triangles; else the root's subtree has all nodes and all item places
 unfoldable pub rootTest : Mesh → Tree → Bool

@@ -12,6 +12,7 @@ use lib.ListN.{length}
 use borrow.Author.Tests.{eqb-true, eqb-false, eq-eqb, ne-eqb, leb-true, le-leb, lt-ltb}
 use Rattle.refusal.specs.Verdicts.{both}
 use Rattle.keys.specs.Sorting.{count}
+use Rattle.items.specs.Counting.{onceBelow}
 use Rattle.math.specs.declared.BoundingBox.{BoundingBox}
 use Rattle.mesh.specs.Mesh.{Mesh, triangleCount, ownBox}
 use Rattle.math.specs.Boxes.{encloses, join}
@@ -19,7 +20,7 @@ use Rattle.tree.specs.declared.check.Walked.{Walked}
 use Rattle.tree.specs.declared.check.Walked.the-variants.{Fault, Ends}
 use Rattle.tree.specs.Tree.{Tree, nodeCount, boxOf, startOf, countOf, itemAt}
 use Rattle.tree.specs.TreeRules.{Around, Subtree, leaf, inner, TreeRules}
-use Rattle.tree.specs.TreeTest.{joinFrom, joinItems, boxedBy, boxed, withLeft, rightChild, leafWalk, walk, endsAt, onceBelow, rootTest, treeTest}
+use Rattle.tree.specs.TreeTest.{joinFrom, joinItems, boxedBy, boxed, withLeft, rightChild, leafWalk, walk, endsAt, rootTest, treeTest}
 use Rattle.tree.specs.JoinLaws.{NumberBox, encloses-join, join-numbers, ownBox-numbers}
 
 below : (j k : ℕ) → j < suc k → j ≤ k

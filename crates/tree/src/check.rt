@@ -11,7 +11,7 @@ ghost use Rattle.mesh.specs.Mesh as Mesh;
 ghost use Rattle.tree.specs.Tree as Tree;
 ghost use Rattle.tree.specs.TreeTest as TreeTest;
 ghost use Rattle.tree.specs.Check as Check;
-use crate::items::items_once;
+use items::items_once;
 use math::BoundingBox;
 use math::Vec3;
 use mesh::boxes::own_box;

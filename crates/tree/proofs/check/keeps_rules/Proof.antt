@@ -11,14 +11,14 @@ use lib.Seq.{drop-drop}
 use borrow.Author.Needs.{needs}
 use borrow.Author.Tests.{eqb-true, not-true, not-false}
 use Rattle.refusal.specs.Verdicts.{both}
+use Rattle.items.specs.Once.{once-below}
+use Rattle.items.specs.Counting.{onceBelow, CountsOnce}
 use Rattle.mesh_questions.specs.Accepted.{Accepted}
 use Rattle.mesh.specs.Triangles.{sides}
 use Rattle.mesh.specs.Mesh.{Mesh, mesh, triangleCount}
 use Rattle.tree.specs.Tree.{Tree, tree, nodeCount, itemAt}
-use Rattle.tree.specs.TreeTest.{Lent, onceBelow, rootTest, treeTest, triangleCount-accepted}
+use Rattle.tree.specs.TreeTest.{Lent, rootTest, treeTest, triangleCount-accepted}
 use Rattle.tree.specs.TreeTheorem.{once-sound}
-use Rattle.tree.specs.Once.{once-below}
-use Rattle.tree.specs.Counting.{CountsOnce}
 use Rattle.tree.proofs.check.keeps_rules.Statement.{statement}
 use Rattle.tree.proofs.check.keeps_rules.Tie as tie
 

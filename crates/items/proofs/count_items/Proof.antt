@@ -8,9 +8,9 @@ use lib.ListN.{length, getD, take, drop, length-set, length-take}
 use lib.Seq.{drop-set-lt, take-all}
 use borrow.Author.Needs.{needs}
 use Rattle.keys.specs.Sorting.{count}
-use Rattle.tree.specs.Counting.{count-le, counted-in, counted-out}
-use Rattle.tree.proofs.items.count_items.Statement.{statement}
-use Rattle.tree.proofs.items.count_items.Tie as tie
+use Rattle.items.specs.Counting.{count-le, counted-in, counted-out}
+use Rattle.items.proofs.count_items.Statement.{statement}
+use Rattle.items.proofs.count_items.Tie as tie
 
 abbrev Inv-loop : tie.InvT-loop
 Inv-loop items n work₀ j₀ work j =

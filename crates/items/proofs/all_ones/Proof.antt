@@ -7,9 +7,9 @@ use lib.Dec.{eqb}
 use lib.ListN.{getD}
 use borrow.Author.Needs.{needs}
 use borrow.Author.Tests.{eq-eqb, ne-eqb}
-use Rattle.tree.specs.Counting.{allOnes, allOnes-next}
-use Rattle.tree.proofs.items.all_ones.Statement.{statement}
-use Rattle.tree.proofs.items.all_ones.Tie as tie
+use Rattle.items.specs.Counting.{allOnes, allOnes-next}
+use Rattle.items.proofs.all_ones.Statement.{statement}
+use Rattle.items.proofs.all_ones.Tie as tie
 
 abbrev Inv-loop : tie.InvT-loop
 Inv-loop work n i₀ i = (i ≤ n) × (allOnes i work ≡ allOnes n work)

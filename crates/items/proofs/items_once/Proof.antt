@@ -8,9 +8,9 @@ use lib.ListN.{length, replicate, length-replicate}
 use borrow.Author.Needs.{needs}
 use borrow.Author.Tests.{eq-eqb, ne-eqb}
 use Rattle.lent.specs.Over.{over, drop-over}
-use Rattle.tree.specs.Counting.{Counted, CountsOnce, allOnes, cleared-zero, allOnes-once}
-use Rattle.tree.proofs.items.items_once.Statement.{statement}
-use Rattle.tree.proofs.items.items_once.Tie as tie
+use Rattle.items.specs.Counting.{Counted, CountsOnce, allOnes, cleared-zero, allOnes-once}
+use Rattle.items.proofs.items_once.Statement.{statement}
+use Rattle.items.proofs.items_once.Tie as tie
 
 counted-once : (items : List ℕ) (n : ℕ) (work₀ cleared work : List ℕ) (result : Bool) → length items ≡ n → cleared ≡ over (replicate n 0) work₀ → Counted items n cleared work → result ≡ allOnes n work
     → CountsOnce items n work₀ result work

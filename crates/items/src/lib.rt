@@ -1,9 +1,9 @@
-// Whether items name each triangle once, by counting them in the lent work places. The definitions are in
-// specs/Counting.antt.
+// Whether a tree's items name each triangle once, by counting them in the lent work places. The definitions are
+// in specs/Counting.antt.
 ghost use mathlib.Core.Path.{_≡_};
 ghost use Prim.Native.Nat.{_≤_};
 ghost use lib.ListN.{length};
-ghost use Rattle.tree.specs.Counting as Counting;
+ghost use Rattle.items.specs.Counting as Counting;
 
 // Counts in place k how often k stands among the items, for each k below `n`.
 fn count_items(items: &[u32], n: usize, work: &mut [u64])

@@ -15,8 +15,7 @@ use Rattle.lent.specs.Over.{over}
 use Rattle.keys.specs.Sorting.{count}
 use Rattle.keys.specs.SortingTheorems.{eq-or-ne}
 use Rattle.keys.specs.Permutations.{count-append}
-use Rattle.tree.specs.Once.{one-le}
-use Rattle.tree.specs.TreeTest.{onceBelow}
+use Rattle.items.specs.Once.{one-le}
 
 -- the first n places hold 0
 abbrev pub Zero : ℕ → List ℕ → Type 0
@@ -26,6 +25,11 @@ Zero n work = (k : ℕ) → k < n → getD work k 0 ≡ 0
 pub record Counted (items : List ℕ) (n : ℕ) (work₀ work : List ℕ) : Type 0 where
   pub counts : (k : ℕ) → k < n → getD work k 0 ≡ count k items
   pub rest : drop n work ≡ drop n work₀
+
+-- whether each of the numbers below k stands once in the list
+unfoldable pub onceBelow : ℕ → List ℕ → Bool
+onceBelow zero items = true
+onceBelow (suc k) items = eqb (count k items) 1 && onceBelow k items
 
 -- what `items_once` promises: whether there are n items and each number below n stands once among them, and the places from n on as they were
 pub record CountsOnce (items : List ℕ) (n : ℕ) (work₀ : List ℕ) (result : Bool) (work : List ℕ) : Type 0 where
