@@ -22,7 +22,7 @@ use Rattle.mesh_questions.specs.Faces.{faces}
 use Rattle.mesh.specs.Boxes.{surfaceEps, prepare}
 use Rattle.tree.specs.Tree.{Tree}
 use Rattle.edges.specs.Edges.{closed}
-use Rattle.intersect.specs.BoxLaws.{finiteNonZero}
+use Rattle.rays.specs.BoxLaws.{finiteNonZero}
 use Rattle.scan.specs.declared.votes.Vote.{Vote}
 use Rattle.scan.specs.declared.votes.Vote.the-variants.{None, Odd, Even}
 use Rattle.scan.specs.declared.votes.Votes.{Votes}

@@ -26,10 +26,10 @@ use Rattle.mesh.specs.PermutedBoxes.{F64, F64Vec, AllF64, meshBox-reordered, su
 use Rattle.edges.specs.Edges.{closed}
 use Rattle.edges.specs.EdgeLaws.{flatten-faces}
 use Rattle.edges.specs.ClosedLaws.{closed-reordered, closed-renumbered}
-use Rattle.intersect.specs.declared.rays.RayHit.{RayHit}
-use Rattle.intersect.specs.declared.rays.RayHit.the-variants.{Miss}
-use Rattle.intersect.specs.Closest.{closestOnTriangle}
-use Rattle.intersect.specs.Rays.{rayTriangle}
+use Rattle.closest.specs.Closest.{closestOnTriangle}
+use Rattle.rays.specs.declared.RayHit.{RayHit}
+use Rattle.rays.specs.declared.RayHit.the-variants.{Miss}
+use Rattle.rays.specs.Rays.{rayTriangle}
 use Rattle.scan.specs.declared.votes.Vote.{Vote}
 use Rattle.scan.specs.declared.votes.Vote.the-variants.{None, Odd, Even}
 use Rattle.scan.specs.Scan.{which, some, surfacePasses, within, touches, touching, rayPasses, crossing, found, isHit, isDegenerate, voteOver, vote, votes, plainScan}

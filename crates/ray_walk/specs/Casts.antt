@@ -6,7 +6,7 @@ use lib.Ieee.{nan}
 use lib.ListN.{getD}
 use Rattle.math.specs.declared.Vec3.{Vec3}
 use Rattle.math.specs.Vectors.{vec, isFinite}
-use Rattle.intersect.specs.BoxLaws.{finiteNonZero}
+use Rattle.rays.specs.BoxLaws.{finiteNonZero}
 use Rattle.scan.specs.Scan.{inverse, directions}
 use Rattle.ray_walk.specs.declared.Ray.{Ray}
 use Rattle.ray_walk.specs.Planes.{nearPlaces}

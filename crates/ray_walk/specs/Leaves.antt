@@ -12,8 +12,8 @@ use borrow.Author.Tests.{ltb-true, ltb-false}
 use Rattle.math.specs.declared.Vec3.{Vec3}
 use Rattle.mesh.specs.Items.{Item}
 use Rattle.mesh.specs.Mesh.{Mesh, ownBox}
-use Rattle.intersect.specs.declared.rays.RayHit.{RayHit}
-use Rattle.intersect.specs.declared.rays.RayHit.the-variants.{Miss}
+use Rattle.rays.specs.declared.RayHit.{RayHit}
+use Rattle.rays.specs.declared.RayHit.the-variants.{Miss}
 use Rattle.scan.specs.declared.votes.Vote.{Vote}
 use Rattle.scan.specs.Scan.{rayPasses, found}
 use Rattle.scan.specs.ScanLaws.{castOver, castOver-append, withFound}

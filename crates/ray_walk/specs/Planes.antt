@@ -13,7 +13,7 @@ use Rattle.math.specs.declared.Vec3.{Vec3}
 use Rattle.math.specs.declared.BoundingBox.{BoundingBox}
 use Rattle.math.specs.Vectors.{at}
 use Rattle.tree.specs.Tree.{boxAt}
-use Rattle.intersect.specs.Slabs.{entry, minusExit, Met}
+use Rattle.rays.specs.Slabs.{entry, minusExit, Met}
 use Rattle.ray_walk.specs.declared.Near.{Near}
 use Rattle.ray_walk.specs.declared.Ray.{Ray}
 

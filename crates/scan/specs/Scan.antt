@@ -15,10 +15,10 @@ use Rattle.mesh_questions.specs.Faces.{faces}
 use Rattle.mesh.specs.Boxes.{vertex, prepare}
 use Rattle.mesh.specs.Mesh.{Mesh, triangleAt, ownBox, allTriangles}
 use Rattle.edges.specs.Edges.{closed}
-use Rattle.intersect.specs.declared.rays.RayHit.{RayHit}
-use Rattle.intersect.specs.declared.rays.RayHit.the-variants.{Miss, Hit, Degenerate}
-use Rattle.intersect.specs.Closest.{closestOnTriangle}
-use Rattle.intersect.specs.Rays.{rayHitsBox, rayTriangle}
+use Rattle.closest.specs.Closest.{closestOnTriangle}
+use Rattle.rays.specs.declared.RayHit.{RayHit}
+use Rattle.rays.specs.declared.RayHit.the-variants.{Miss, Hit, Degenerate}
+use Rattle.rays.specs.Rays.{rayHitsBox, rayTriangle}
 use Rattle.scan.specs.declared.votes.Vote.{Vote}
 use Rattle.scan.specs.declared.votes.Vote.the-variants.{None, Odd, Even}
 use Rattle.scan.specs.declared.votes.Votes.{Votes}

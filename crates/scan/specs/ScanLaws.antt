@@ -10,8 +10,8 @@ use borrow.Author.Tests.{eqb-true, eqb-false, eq-eqb, ne-eqb, lt-ltb}
 use Rattle.keys.specs.Sorting.{Permutation}
 use Rattle.keys.specs.SortingTheorems.{by-test}
 use Rattle.keys.specs.Permutations.{permuted-sum}
-use Rattle.intersect.specs.declared.rays.RayHit.{RayHit}
-use Rattle.intersect.specs.declared.rays.RayHit.the-variants.{Miss, Hit, Degenerate}
+use Rattle.rays.specs.declared.RayHit.{RayHit}
+use Rattle.rays.specs.declared.RayHit.the-variants.{Miss, Hit, Degenerate}
 use Rattle.scan.specs.declared.votes.Vote.{Vote}
 use Rattle.scan.specs.declared.votes.Vote.the-variants.{None, Odd, Even}
 use Rattle.scan.specs.Scan.{which, some, isHit, isDegenerate, voteOver}

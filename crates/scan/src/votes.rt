@@ -3,7 +3,7 @@ ghost use mathlib.Core.Path.{_≡_};
 ghost use Prim.Native.Nat.{_<_};
 ghost use Rattle.scan.specs.Scan as Scan;
 ghost use Rattle.scan.specs.ScanLaws as ScanLaws;
-use intersect::rays::RayHit;
+use rays::RayHit;
 
 // The vote of a direction.
 pub enum Vote {

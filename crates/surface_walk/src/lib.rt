@@ -10,7 +10,7 @@ ghost use Rattle.tree.specs.Tree as Tree;
 ghost use Rattle.scan.specs.Scan as Scan;
 ghost use Rattle.walks.specs.Stacks as Stacks;
 ghost use Rattle.walks.specs.Walks as Walks;
-use intersect::closest::closest_on_triangle;
+use closest::closest_on_triangle;
 use math::BoundingBox;
 use math::Vec3;
 use mesh::Triangle;

@@ -4,6 +4,7 @@ use native.Mathlib.Omega.{arith}
 use mathlib.Core.Path.{_≡_}
 use mathlib.Core.Bool.{false}
 use Rattle.math.specs.Boxes.{isEmpty}
+use Rattle.math.specs.Enclosing.{around-not-empty}
 use Rattle.mesh_questions.specs.Accepted.{Accepted}
 use Rattle.mesh.specs.Fans.{length-triangles}
 use Rattle.mesh.specs.Triangles.{triangle}
@@ -14,7 +15,6 @@ use Rattle.mesh.specs.Items.{Items}
 use Rattle.tree.specs.Tree.{Tree, boxOf, itemAt}
 use Rattle.tree.specs.TreeRules.{Around, Subtree, leaf, inner}
 use Rattle.tree.specs.Numbers.{items-below}
-use Rattle.intersect.specs.BoxLaws.{around-not-empty}
 use Rattle.walks.specs.Walks.{Ready}
 use Rattle.walks.specs.WalkTheorem.{subtree-grows}
 

@@ -12,7 +12,7 @@ use borrow.Author.Tests.{eq-eqb, ne-eqb}
 use Rattle.keys.specs.SortingTheorems.{by-test}
 use Rattle.math.specs.declared.BoundingBox.{BoundingBox}
 use Rattle.tree.specs.Tree.{Tree, boxOf, startOf, countOf}
-use Rattle.intersect.specs.declared.rays.RayHit.{RayHit}
+use Rattle.rays.specs.declared.RayHit.{RayHit}
 use Rattle.scan.specs.Scan.{some, isDegenerate, voteOver}
 use Rattle.scan.specs.ScanLaws.{some-cons}
 use Rattle.walks.specs.Walks.{Visit, node, item, itemsFrom, visits, upTo, reached}

@@ -10,11 +10,12 @@ use Rattle.math.specs.declared.Vec3.{Vec3}
 use Rattle.math.specs.declared.BoundingBox.{BoundingBox}
 use Rattle.math.specs.Vectors.{isFinite}
 use Rattle.math.specs.Boxes.{encloses}
+use Rattle.math.specs.Enclosing.{surface-passes-around}
 use Rattle.mesh.specs.Mesh.{Mesh, triangleCount, ownBox, allTriangles}
 use Rattle.tree.specs.Tree.{Tree}
-use Rattle.intersect.specs.declared.rays.RayHit.{RayHit}
-use Rattle.intersect.specs.declared.rays.RayHit.the-variants.{Miss}
-use Rattle.intersect.specs.BoxLaws.{finiteNonZero, surface-passes-around, ray-passes-around}
+use Rattle.rays.specs.declared.RayHit.{RayHit}
+use Rattle.rays.specs.declared.RayHit.the-variants.{Miss}
+use Rattle.rays.specs.BoxLaws.{finiteNonZero, ray-passes-around}
 use Rattle.scan.specs.Scan.{which, some, surfacePasses, touches, touching, inverse, rayPasses, found, isHit, isDegenerate, vote}
 use Rattle.scan.specs.ScanLaws.{voteOver-same}
 use Rattle.walks.specs.Walks.{allVisits, reached, surfaceWalk, rayWalk, walkTouches, walkVote, Ready}

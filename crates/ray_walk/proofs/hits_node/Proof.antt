@@ -1,6 +1,6 @@
 -- `hits_node` meets its contract: what is met at the planes are the entries and exits of the slabs.
 use native.Mathlib.Omega.{arith}
-use Rattle.intersect.specs.Slabs.{slabHits, all-numbers, slab-same}
+use Rattle.rays.specs.Slabs.{slabHits, all-numbers, slab-same}
 use Rattle.ray_walk.specs.Planes.{places-within, entries, exits}
 use borrow.Author.Needs.{needs}
 use Rattle.ray_walk.proofs.hits_node.Statement.{statement}

@@ -1,0 +1,2 @@
+-- The definitions of crate `closest`.
+pub mod Closest
