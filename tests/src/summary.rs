@@ -70,7 +70,8 @@ const ROWS: [Row; 13] = [
             "refusal 11",
         ],
         changed: false,
-        needed: true,
+        // all refusals are needed for themselves
+        needed: false,
     },
     Row {
         entry: "equal median centres",
