@@ -1,12 +1,15 @@
 -- The laws of the builder's definitions: the two halves have the items of the whole, a tree over items has those items, it is a leaf or
--- an inner node by their number, a node's box encloses the own box of each of its triangles, and the lists have their lengths.
+-- an inner node by their number, a node's box encloses the own box of each of its triangles, the lists have their lengths,
+-- and centres are floats of the format.
 use Prim.Native.Nat.{ℕ, zero, suc, _+_, _-_, _*_, _/_, _≤_, _<_}
 use native.Mathlib.Omega.{arith}
 use mathlib.Core.Path.{_≡_, refl, sym, _∙_}
 use mathlib.Core.Logic.{⊎-elim}
-use mathlib.Core.Bool.{true, cond}
+use mathlib.Core.Bool.{Bool, true, false, cond}
 use mathlib.Core.List.{List, [], _∷_, _++_}
-use lib.Dec.{eqb}
+use lib.Dec.{T, eqb}
+use lib.Ieee.{Float, binary64, fits}
+use lib.Ieee.Fits.{mul-fits}
 use lib.ListN.{length, take, drop, length-take, length-drop, length-append, take-append-drop}
 use borrow.Author.Tests.{le-leb, lt-leb}
 use Rattle.refusal.specs.Verdicts.{both}
@@ -14,9 +17,12 @@ use Rattle.keys.specs.Sorting.{count, All}
 use Rattle.keys.specs.SortingTheorems.{le-or-lt, all-sortedBy, sortedBy-sum, length-sortedBy}
 use Rattle.keys.specs.Permutations.{all-append}
 use Rattle.math.specs.declared.BoundingBox.{BoundingBox}
+use Rattle.math.specs.Vectors as Vectors
+use Rattle.math.specs.Vectors.{component}
 use Rattle.mesh.specs.Mesh.{Mesh, ownBox}
-use Rattle.math.specs.Boxes.{encloses, join}
-use Rattle.builder.specs.Builder.{byCenter, leftItems, rightItems, joinAll, nodeBox, BoxTree, leafNode, innerNode, build, treeOver, size, boxList, itemList, nodeList}
+use Rattle.math.specs.Boxes.{encloses, join, center}
+use Rattle.mesh.specs.Boxes.{triangleCenter}
+use Rattle.builder.specs.Builder.{centerOf, centerOn, byCenter, leftItems, rightItems, joinAll, nodeBox, BoxTree, leafNode, innerNode, build, treeOver, size, boxList, itemList, nodeList}
 use Rattle.tree.specs.JoinLaws.{NumberBox, encloses-join, encloses-self, join-numbers, ownBox-numbers}
 
 -- ---- the halves
@@ -180,3 +186,16 @@ length-nodeList n i (innerNode b left right) =
     let r = n + 1 + size left in
     let j = i + length (itemList left) in
     omega (arith, length-append (nodeList (n + 1) i left) (nodeList r j right), length-nodeList (n + 1) i left, length-nodeList r j right)
+
+-- ---- centres
+
+-- what holds of each of three numbers holds of the one that is chosen
+pub each : (P : Float → Type 0) (s t : Bool) (x y z : Float) → P x → P y → P z → P (cond s x (cond t y z))
+each P true t x y z p q r = p
+each P false true x y z p q r = q
+each P false false x y z p q r = r
+
+-- a centre is a product, so it is of the format
+pub center-fits : (m : Mesh) (axis t : ℕ) → T (fits binary64 (centerOn m axis t))
+unfolding centerOn centerOf triangleCenter center Vectors.mul component
+center-fits m axis t = each (λ x. T (fits binary64 x)) (eqb axis 0) (eqb axis 1) _ _ _ (mul-fits binary64 _ _) (mul-fits binary64 _ _) (mul-fits binary64 _ _)

@@ -7,7 +7,7 @@ use mathlib.Core.Bool.{Bool, true, false, cond, _||_}
 use mathlib.Core.List.{List, [], _∷_, _++_}
 use lib.Dec.{T, eqb}
 use lib.Ieee.{Float, nan, inf, fin, binary64, fits, ofBits, lt, eq, ne}
-use lib.Ieee.Fits.{cond-fits, inf-fits, mul-fits}
+use lib.Ieee.Fits.{cond-fits, inf-fits}
 use lib.ListN.{getD, take, drop, take-append-drop}
 use Rattle.float.specs.Arithmetic.{zero, _⊖_}
 use Rattle.float.specs.Rules as Rules
@@ -22,6 +22,7 @@ use Rattle.math.specs.Vectors.{component}
 use Rattle.math.specs.Boxes.{box, empty, include, size, center, join}
 use Rattle.mesh.specs.Boxes.{vertex, triangleBox, triangleCenter}
 use Rattle.mesh.specs.Mesh.{Mesh, ownBox}
+use Rattle.builder.specs.BuilderLaws.{each, center-fits}
 use Rattle.builder.specs.Builder.{centerOf, centerOn, lowest, highest, spread, wider, splitAxis, joinAll, nodeBox}
 use Rattle.tree.specs.JoinLaws.{NumberBox, ownBox-numbers}
 use Rattle.extent.specs.Extent.{lowerCenter, higherCenter, withCenter, withCenters, widerAxis, widestAxis, edge, ownEdge, pick, settledEdge, settledBox, joinedEdge, joinedBox}
@@ -30,11 +31,6 @@ use Rattle.extent.specs.ExtentFolds.{next, picked, least, Floats, least-
 use Rattle.extent.specs.ExtentFirst.{Small}
 
 -- ---- components
-
-each : (P : Float → Type 0) (s t : Bool) (x y z : Float) → P x → P y → P z → P (cond s x (cond t y z))
-each P true t x y z p q r = p
-each P false true x y z p q r = q
-each P false false x y z p q r = r
 
 three : (f : Float → Float → Float) (s t : Bool) (x x' y y' z z' : Float) → cond s (f x x') (cond t (f y y') (f z z')) ≡ f (cond s x (cond t y z)) (cond s x' (cond t y' z'))
 three f true t x x' y y' z z' = refl
@@ -87,11 +83,6 @@ unfolding Rules.isFinite eq ofBits
 zero-counts nan h = h
 zero-counts (inf s) h = h
 zero-counts (fin s n e) h = tt
-
--- a centre is a product, so it is of the format
-pub center-fits : (m : Mesh) (axis t : ℕ) → T (fits binary64 (centerOn m axis t))
-unfolding centerOn centerOf triangleCenter center Vectors.mul component
-center-fits m axis t = each (λ x. T (fits binary64 x)) (eqb axis 0) (eqb axis 1) _ _ _ (mul-fits binary64 _ _) (mul-fits binary64 _ _) (mul-fits binary64 _ _)
 
 centers : (m : Mesh) (axis : ℕ) → Floats (finiteOn m axis) (centerOn m axis)
 unfolding Rules.isFinite
