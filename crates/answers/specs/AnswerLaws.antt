@@ -16,7 +16,7 @@ use Rattle.mesh.specs.Mesh.{Mesh, triangleCount}
 use Rattle.tree.specs.Tree.{tree, nodeCount}
 use Rattle.tree.specs.TreeRules.{TreeRules}
 use Rattle.tree.specs.TreeTest.{triangleCount-accepted}
-use Rattle.tree.specs.Check.{askRoom}
+use Rattle.tree_check.specs.Check.{askRoom}
 use Rattle.bvh.specs.declared.build.Built.{Built}
 use Rattle.bvh.specs.declared.build.Built.the-variants.{Refused, Nodes}
 use Rattle.bvh.specs.Build as Build

@@ -12,8 +12,8 @@ use Rattle.math.specs.Vectors as Vectors
 use Rattle.mesh.specs.Mesh.{Mesh}
 use Rattle.mesh.specs.Places.{below-finite}
 use Rattle.tree.specs.Tree.{Tree}
-use Rattle.tree.specs.Check.{checkAnswer}
-use Rattle.tree.specs.Places.{below-check}
+use Rattle.tree_check.specs.Check.{checkAnswer}
+use Rattle.tree_check.specs.Places.{below-check}
 use Rattle.polyhedron.specs.Lists.{listFits, askPoints, askList, listVerdict}
 use Rattle.polyhedron.specs.ListLaws.{list-short}
 

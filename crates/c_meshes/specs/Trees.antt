@@ -11,7 +11,7 @@ use Rattle.mesh.specs.Mesh.{Mesh}
 use Rattle.tree.specs.Tree.{Tree, nodeCount}
 use Rattle.builder.specs.Builder.{layout}
 use Rattle.bvh.specs.Build.{verdict}
-use Rattle.tree.specs.Check.{askRoom, checkAnswer}
+use Rattle.tree_check.specs.Check.{askRoom, checkAnswer}
 
 -- the number returned, and of each buffer, lent as ₀ and left as ₁, the list of the builder rule's tree in front unless 1 to 6 refuse, and the rest as it was
 pub record Builds (m : Mesh) (boxes₀ : List Float) (nodes₀ items₀ : List ℕ) (result : ℕ) (boxes₁ : List Float) (nodes₁ items₁ : List ℕ) : Type 0 where

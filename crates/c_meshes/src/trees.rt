@@ -38,7 +38,7 @@ pub extern "C" fn csx_check_tree(
 ) -> u64
     ensures { λ r. ⌜ Trees.Checks (Mesh.mesh (now (coords .entry)) (now (corners .entry)) (now (ends .entry))) (Tree.tree (now (boxes .entry)) (now (nodes .entry)) (now (items .entry))) (now (work .entry)) r (now (work .exit)) ⌝ }
 {
-    let checked = tree::check::check_tree(coords, corners, ends, boxes, nodes, items, work);
+    let checked = tree_check::check_tree(coords, corners, ends, boxes, nodes, items, work);
     match checked {
         Verdict::Refused(refusal) => refusal.code(),
         Verdict::Passed => 0,

@@ -12,7 +12,7 @@ use Rattle.mesh_questions.specs.Questions.{askMesh}
 use Rattle.mesh.specs.Mesh.{Mesh}
 use Rattle.tree.specs.Tree.{Tree, nodeCount}
 use Rattle.tree.specs.TreeRules.{TreeRules}
-use Rattle.tree.specs.Check.{askRoom, checkAnswer}
+use Rattle.tree_check.specs.Check.{askRoom, checkAnswer}
 use Rattle.bvh.specs.declared.build.Built.{Built}
 use Rattle.bvh.specs.declared.build.Built.the-variants.{Nodes}
 use Rattle.builder.specs.Builder.{layout}

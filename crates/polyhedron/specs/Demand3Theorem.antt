@@ -3,7 +3,7 @@
 use mathlib.Core.Path.{fun-ext}
 use Rattle.refusal.specs.Verdicts.{written, then-passed}
 use Rattle.mesh_questions.specs.Accepted.{accepted}
-use Rattle.tree.specs.Check.{check-accepts}
+use Rattle.tree_check.specs.Check.{check-accepts}
 use Rattle.bvh.specs.Build.{askBuild, buildAnswer}
 use Rattle.builder.specs.BuilderTheorem.{layout-rules}
 use Rattle.polyhedron.specs.Lists.{listVerdict, answersTo, listAnswer}

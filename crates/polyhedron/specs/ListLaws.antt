@@ -24,8 +24,8 @@ use Rattle.mesh.specs.Mesh.{Mesh}
 use Rattle.edges.specs.Edges.{edgeKeys, closed}
 use Rattle.edges.specs.PairLaws.{length-sortedKeys}
 use Rattle.tree.specs.Tree.{Tree}
-use Rattle.tree.specs.Check as Check
-use Rattle.tree.specs.Check.{askRoom, askTree, checkAnswer, room-passed, check-accepts}
+use Rattle.tree_check.specs.Check as Check
+use Rattle.tree_check.specs.Check.{askRoom, askTree, checkAnswer, room-passed, check-accepts}
 use Rattle.scan.specs.Scan.{plainScan}
 use Rattle.points.specs.declared.Prepared.{Prepared}
 use Rattle.points.specs.Points.{prepared}

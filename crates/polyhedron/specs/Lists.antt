@@ -19,7 +19,7 @@ use Rattle.mesh_questions.specs.Questions.{askFinite}
 use Rattle.mesh.specs.Mesh.{Mesh}
 use Rattle.edges.specs.Edges.{edgeKeys}
 use Rattle.tree.specs.Tree.{Tree}
-use Rattle.tree.specs.Check.{askRoom, checkAnswer}
+use Rattle.tree_check.specs.Check.{askRoom, checkAnswer}
 use Rattle.scan.specs.Scan.{plainScan}
 use Rattle.points.specs.declared.Prepared.{Prepared}
 use Rattle.points.specs.Points.{Asked}

@@ -79,7 +79,7 @@ pub fn contains_list(
 ) -> Verdict
     ensures { λ r. ⌜ Lists.Contains (Mesh.mesh (now (coords .entry)) (now (corners .entry)) (now (ends .entry))) (Tree.tree (now (boxes .entry)) (now (nodes .entry)) (now (items .entry))) (now (points .entry)) (now (work .entry)) (now (answers .entry)) r (now (work .exit)) (now (answers .exit)) ⌝ }
 {
-    let checked = tree::check::check_tree(coords, corners, ends, boxes, nodes, items, work);
+    let checked = tree_check::check_tree(coords, corners, ends, boxes, nodes, items, work);
     if let Verdict::Refused(refusal) = checked {
         return Verdict::Refused(refusal);
     }

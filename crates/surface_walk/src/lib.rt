@@ -88,7 +88,7 @@ fn node_passes(boxes: &[f64], n: usize, eps: f64, p: Vec3) -> bool
     requires { ⌜ 6 * n + 5 < length (now boxes) ⌝ }
     ensures { λ r. ⌜ r ≡ Scan.surfacePasses eps p (Tree.boxAt (now (boxes .entry)) n) ⌝ }
 {
-    surface_passes(eps, p, tree::check::node_box(boxes, n))
+    surface_passes(eps, p, tree::node_box(boxes, n))
 }
 
 // The next leaf that the surface walk comes to, from a place on, or its end.

@@ -5,5 +5,3 @@ pub mod TreeTest
 pub mod TreeTheorem
 pub mod Numbers
 pub mod JoinLaws
-pub mod Check
-pub mod Places

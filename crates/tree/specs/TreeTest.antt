@@ -15,8 +15,8 @@ use Rattle.mesh_questions.specs.Faces.{faces}
 use Rattle.mesh.specs.Triangles as Triangles
 use Rattle.mesh.specs.Mesh.{Mesh, triangleCount, ownBox}
 use Rattle.math.specs.Boxes.{encloses, join}
-use Rattle.tree.specs.declared.check.Walked.{Walked}
-use Rattle.tree.specs.declared.check.Walked.the-variants.{Fault, Ends}
+use Rattle.tree.specs.declared.Walked.{Walked}
+use Rattle.tree.specs.declared.Walked.the-variants.{Fault, Ends}
 use Rattle.tree.specs.Tree.{Tree, nodeCount, boxOf, startOf, countOf, itemAt}
 
 -- box b joined with the own boxes of the triangles at `places` item places from i on

@@ -16,8 +16,8 @@ use Rattle.items.specs.Counting.{onceBelow}
 use Rattle.math.specs.declared.BoundingBox.{BoundingBox}
 use Rattle.mesh.specs.Mesh.{Mesh, triangleCount, ownBox}
 use Rattle.math.specs.Boxes.{encloses, join}
-use Rattle.tree.specs.declared.check.Walked.{Walked}
-use Rattle.tree.specs.declared.check.Walked.the-variants.{Fault, Ends}
+use Rattle.tree.specs.declared.Walked.{Walked}
+use Rattle.tree.specs.declared.Walked.the-variants.{Fault, Ends}
 use Rattle.tree.specs.Tree.{Tree, nodeCount, boxOf, startOf, countOf, itemAt}
 use Rattle.tree.specs.TreeRules.{Around, Subtree, leaf, inner, TreeRules}
 use Rattle.tree.specs.TreeTest.{joinFrom, joinItems, boxedBy, boxed, withLeft, rightChild, leafWalk, walk, endsAt, rootTest, treeTest}

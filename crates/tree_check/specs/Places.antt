@@ -7,9 +7,9 @@ use Rattle.refusal.specs.declared.Refusal.the-variants as Refusals
 use Rattle.refusal.specs.Places.{Below, below-ask, below-then}
 use Rattle.mesh.specs.Mesh.{Mesh}
 use Rattle.mesh.specs.Places.{below-room}
 use Rattle.tree.specs.Tree.{Tree}
 use Rattle.tree.specs.TreeTest.{treeTest}
-use Rattle.tree.specs.Check.{askRoom, askTree, checkAnswer}
+use Rattle.tree_check.specs.Check.{askRoom, askTree, checkAnswer}
 
 pub below-check : (m : Mesh) (t : Tree) (work : ℕ) → Below (checkAnswer m t work)
 unfolding checkAnswer askRoom askTree

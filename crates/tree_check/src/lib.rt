@@ -1,5 +1,5 @@
 // The tree check: document 01's questions 1 to 7. The definitions are in specs/Check.antt (the questions and
-// the promise) and specs/TreeTest.antt (the tree rules as a test).
+// the promise) and in crate tree, specs/TreeTest.antt (the tree rules as a test).
 ghost use mathlib.Core.Path.{_≡_};
 ghost use mathlib.Core.Bool.{_&&_};
 ghost use Prim.Native.Nat.{_+_, _-_, _*_, _/_, _≤_, _<_};
@@ -8,39 +8,17 @@ ghost use lib.ListN.{length};
 ghost use Rattle.mesh_questions.specs.Accepted.{Accepted};
 ghost use Rattle.mesh.specs.Triangles as Triangles;
 ghost use Rattle.mesh.specs.Mesh as Mesh;
 ghost use Rattle.tree.specs.Tree as Tree;
 ghost use Rattle.tree.specs.TreeTest as TreeTest;
-ghost use Rattle.tree.specs.Check as Check;
+ghost use Rattle.tree_check.specs.Check as Check;
 use items::items_once;
 use math::BoundingBox;
-use math::Vec3;
 use mesh::boxes::own_box;
 use mesh_questions::Asked;
 use refusal::Refusal;
 use refusal::Verdict;
-
-// What the walk over a subtree finds.
-enum Walked {
-    // The tree does not keep the rules.
-    Fault,
-    // The node and the item place behind the subtree, and the join of the own boxes below it.
-    Ends {
-        node: usize,
-        item: usize,
-        joined: BoundingBox,
-    },
-}
-
-// The box of node `n`.
-pub fn node_box(boxes: &[f64], n: usize) -> BoundingBox
-    requires { ⌜ 6 * n + 5 < length (now boxes) ⌝ }
-    ensures { λ r. ⌜ r ≡ Tree.boxAt (now (boxes .entry)) n ⌝ }
-{
-    BoundingBox {
-        min: Vec3::at(boxes, 6 * n),
-        max: Vec3::at(boxes, 6 * n + 3),
-    }
-}
+use tree::Walked;
+use tree::node_box;
 
 // The join of the own boxes of `places` items from place `i` on.
 fn join_items(

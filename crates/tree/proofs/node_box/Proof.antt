@@ -1,8 +1,8 @@
 -- `node_box` meets its contract: it reads the two corners of the definition.
 use borrow.Author.Needs.{needs}
 use Rattle.tree.specs.Tree.{boxAt}
-use Rattle.tree.proofs.check.node_box.Statement.{statement}
-use Rattle.tree.proofs.check.node_box.Tie as tie
+use Rattle.tree.proofs.node_box.Statement.{statement}
+use Rattle.tree.proofs.node_box.Tie as tie
 
 mul-at : tie.Need-mul-at
 mul-at c = search needs

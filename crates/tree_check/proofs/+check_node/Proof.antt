@@ -4,20 +4,20 @@ use native.Mathlib.Omega.{arith}
 use mathlib.Core.Path.{_≡_, sym, _∙_}
 use borrow.Author.Needs.{needs}
 use Rattle.mesh.specs.Mesh.{mesh}
 use Rattle.tree.specs.Tree.{tree, nodeCount, startOf, countOf}
 use Rattle.tree.specs.TreeTest.{walk, walk-out, walk-leaf, left-faults, left-ends-elsewhere, right-follows}
 use Prim.Native.Nat.{ℕ, _-_, _*_, _<_}
 use borrow.Fn.Kinds.{In}
 use borrow.Fn.PlainCycle.{Measures, is, falls, and}
-use Rattle.tree.proofs.check.check_node.Reads as check-node
-use Rattle.tree.proofs.check.check_node.Kinds as check-node-kinds
-use Rattle.tree.proofs.check.+check_node.Lts-check_node as check-node-lts
-use Rattle.tree.proofs.check.boxed.Reads as boxed-reads
-use Rattle.tree.proofs.check.check_leaf.Reads as check-leaf-reads
-use Rattle.tree.proofs.check.node_box.Reads as node-box-reads
-use Rattle.tree.proofs.check.with_left.Reads as with-left-reads
-use Rattle.tree.proofs.check.+check_node.{statement}
-use Rattle.tree.proofs.check.+check_node.Tie.{close}
+use Rattle.tree_check.proofs.check_node.Reads as check-node
+use Rattle.tree_check.proofs.check_node.Kinds as check-node-kinds
+use Rattle.tree_check.proofs.+check_node.Lts-check_node as check-node-lts
+use Rattle.tree_check.proofs.boxed.Reads as boxed-reads
+use Rattle.tree_check.proofs.check_leaf.Reads as check-leaf-reads
+use Rattle.tree.proofs.node_box.Reads as node-box-reads
+use Rattle.tree_check.proofs.with_left.Reads as with-left-reads
+use Rattle.tree_check.proofs.+check_node.{statement}
+use Rattle.tree_check.proofs.+check_node.Tie.{close}
 
 abbrev μ-check-node : Measures 6 check-node-kinds.ps ℕ
 μ-check-node κs a = a .1 .1 .1 .1 .1 .1 .1 .0

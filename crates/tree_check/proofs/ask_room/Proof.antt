@@ -3,9 +3,9 @@ use mathlib.Core.Path.{sym, _∙_}
 use borrow.Author.Needs.{needs}
 use borrow.Author.Tests.{le-leb, lt-leb}
 use Rattle.mesh_questions.specs.Accepted.{asked-passed, asked-refused}
-use Rattle.tree.specs.Check.{askRoom}
-use Rattle.tree.proofs.check.ask_room.Statement.{statement}
-use Rattle.tree.proofs.check.ask_room.Tie as tie
+use Rattle.tree_check.specs.Check.{askRoom}
+use Rattle.tree_check.proofs.ask_room.Statement.{statement}
+use Rattle.tree_check.proofs.ask_room.Tie as tie
 
 ask-mesh-requires : tie.Need-ask-mesh-requires
 ask-mesh-requires c κs = search needs

@@ -10,10 +10,10 @@ use Rattle.lent.specs.Over.{over}
 use Rattle.refusal.specs.declared.Refusal.the-variants as Refusals
 use Rattle.refusal.specs.Verdicts.{ask}
 use Rattle.mesh.specs.Mesh.{Mesh}
 use Rattle.tree.specs.Tree.{Tree}
-use Rattle.tree.specs.Check.{askTree, Keeps, AsksTree}
-use Rattle.tree.proofs.check.ask_tree.Statement.{statement}
-use Rattle.tree.proofs.check.ask_tree.Tie as tie
+use Rattle.tree_check.specs.Check.{askTree, Keeps, AsksTree}
+use Rattle.tree_check.proofs.ask_tree.Statement.{statement}
+use Rattle.tree_check.proofs.ask_tree.Tie as tie
 
 answered : (m : Mesh) (t : Tree) (work₀ counted work : List ℕ) (result kept : Bool) → result ≡ kept → Keeps m t work₀ result counted → work ≡ over (replicate (length (m .corners)) 0) counted
     → AsksTree m t work₀ (ask kept Refusals.Tree) work

@@ -1,9 +1,9 @@
 -- `boxed` meets its contract: its cases are those of the definition, and `encloses` promises the test.
 use mathlib.Core.Path.{sym, _∙_}
 use borrow.Author.Needs.{needs}
 use Rattle.tree.specs.TreeTest.{boxedBy}
-use Rattle.tree.proofs.check.boxed.Statement.{statement}
-use Rattle.tree.proofs.check.boxed.Tie as tie
+use Rattle.tree_check.proofs.boxed.Statement.{statement}
+use Rattle.tree_check.proofs.boxed.Tie as tie
 
 enum-told : tie.Need-enum-told
 enum-told c = search needs

@@ -4,10 +4,10 @@ use Prim.Native.Nat.{_+_, _*_}
 use native.Mathlib.Omega.{arith}
 use borrow.Author.Needs.{needs}
 use borrow.Author.Tests.{le-leb, lt-leb, eq-eqb, ne-eqb}
 use Rattle.tree.specs.Tree.{startOf, countOf}
 use Rattle.tree.specs.TreeTest.{leafWalk}
-use Rattle.tree.proofs.check.check_leaf.Statement.{statement}
-use Rattle.tree.proofs.check.check_leaf.Tie as tie
+use Rattle.tree_check.proofs.check_leaf.Statement.{statement}
+use Rattle.tree_check.proofs.check_leaf.Tie as tie
 
 mul-start : tie.Need-mul-start
 mul-start c = search needs

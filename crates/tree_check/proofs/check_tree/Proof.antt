@@ -10,10 +10,10 @@ use Rattle.refusal.specs.declared.Verdict.{Verdict}
 use Rattle.refusal.specs.declared.Verdict.the-variants.{Passed, Refused}
 use Rattle.refusal.specs.Verdicts.{written}
 use Rattle.mesh.specs.Mesh.{Mesh, mesh}
 use Rattle.tree.specs.Tree.{Tree}
-use Rattle.tree.specs.Check.{askRoom, checkAnswer, AsksTree, Checks, room-passed}
-use Rattle.tree.proofs.check.check_tree.Statement.{statement}
-use Rattle.tree.proofs.check.check_tree.Tie as tie
+use Rattle.tree_check.specs.Check.{askRoom, checkAnswer, AsksTree, Checks, room-passed}
+use Rattle.tree_check.proofs.check_tree.Statement.{statement}
+use Rattle.tree_check.proofs.check_tree.Tie as tie
 
 refused : (m : Mesh) (t : Tree) (work : List ℕ) (refusal : Refusal) → askRoom m (length work) ≡ Refused refusal → Checks m t work (Refused refusal) work
 unfolding checkAnswer written over

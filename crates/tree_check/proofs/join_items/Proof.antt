@@ -5,10 +5,10 @@ use native.Mathlib.Omega.{arith}
 use mathlib.Core.Path.{_≡_, sym, _∙_}
 use borrow.Author.Needs.{needs}
 use Rattle.mesh.specs.Mesh.{mesh}
 use Rattle.tree.specs.Tree.{tree, itemAt}
 use Rattle.tree.specs.TreeTest.{joinFrom, joinItems, joinFrom-next}
-use Rattle.tree.proofs.check.join_items.Statement.{statement}
-use Rattle.tree.proofs.check.join_items.Tie as tie
+use Rattle.tree_check.proofs.join_items.Statement.{statement}
+use Rattle.tree_check.proofs.join_items.Tie as tie
 
 abbrev Inv-loop : tie.InvT-loop
 Inv-loop coords corners ends sides boxes nodes items i places b₀ end k₀ b k =

@@ -16,11 +16,11 @@ use Rattle.items.specs.Counting.{onceBelow, CountsOnce}
 use Rattle.mesh_questions.specs.Accepted.{Accepted}
 use Rattle.mesh.specs.Triangles.{sides}
 use Rattle.mesh.specs.Mesh.{Mesh, mesh, triangleCount}
 use Rattle.tree.specs.Tree.{Tree, tree, nodeCount, itemAt}
 use Rattle.tree.specs.TreeTest.{Lent, rootTest, treeTest, triangleCount-accepted}
 use Rattle.tree.specs.TreeTheorem.{once-sound}
-use Rattle.tree.proofs.check.keeps_rules.Statement.{statement}
-use Rattle.tree.proofs.check.keeps_rules.Tie as tie
+use Rattle.tree_check.proofs.keeps_rules.Statement.{statement}
+use Rattle.tree_check.proofs.keeps_rules.Tie as tie
 
 -- lists that agree from place n on agree from any later place on
 agree-later : (n k : ℕ) (l m : List ℕ) → n ≤ k → drop n l ≡ drop n m → drop k l ≡ drop k m

@@ -6,10 +6,10 @@ use lib.ListN.{length}
 use borrow.Author.Needs.{needs}
 use borrow.Author.Tests.{eq-eqb, ne-eqb}
 use Rattle.mesh.specs.Mesh.{mesh, triangleCount}
 use Rattle.tree.specs.Tree.{nodeCount}
 use Rattle.tree.specs.TreeTest.{endsAt, rootTest, triangleCount-accepted}
-use Rattle.tree.proofs.check.root_fits.Statement.{statement}
-use Rattle.tree.proofs.check.root_fits.Tie as tie
+use Rattle.tree_check.proofs.root_fits.Statement.{statement}
+use Rattle.tree_check.proofs.root_fits.Tie as tie
 
 mul-triangles : tie.Need-mul-triangles
 mul-triangles c = search needs

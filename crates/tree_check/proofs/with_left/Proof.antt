@@ -1,8 +1,8 @@
 -- `with_left` meets its contract: its cases are those of the definition, and `join` promises the join.
 use borrow.Author.Needs.{needs}
 use Rattle.tree.specs.TreeTest.{withLeft}
-use Rattle.tree.proofs.check.with_left.Statement.{statement}
-use Rattle.tree.proofs.check.with_left.Tie as tie
+use Rattle.tree_check.proofs.with_left.Statement.{statement}
+use Rattle.tree_check.proofs.with_left.Tie as tie
 
 enum-told : tie.Need-enum-told
 enum-told c = search needs

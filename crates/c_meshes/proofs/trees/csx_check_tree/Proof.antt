@@ -7,7 +7,7 @@ use Rattle.refusal.specs.declared.Verdict.{Verdict}
 use Rattle.refusal.specs.Verdicts.{returned}
 use Rattle.mesh.specs.Mesh.{Mesh}
 use Rattle.tree.specs.Tree.{Tree}
-use Rattle.tree.specs.Check as Check
+use Rattle.tree_check.specs.Check as Check
 use Rattle.c_meshes.specs.Trees.{Checks}
 use Rattle.c_meshes.proofs.trees.csx_check_tree.Statement.{statement}
 use Rattle.c_meshes.proofs.trees.csx_check_tree.Tie as tie
