@@ -1,5 +1,7 @@
 // The answers to the points of a small mesh: the builder's tree, and the list answer over it. What they ask for is in
 // specs/Answers.antt.
+#![tactic(auto)]
+
 ghost use Rattle.std.specs.Prelude.{◌≡◌, length};
 ghost use Rattle.mesh.specs.Mesh as Mesh;
 ghost use Rattle.polyhedron.specs.Lists as Lists;

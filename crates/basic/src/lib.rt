@@ -1,5 +1,7 @@
 // Membership of boxes, spheres, cylinders and their shells, from csx's basic.rs. The definitions are in
 // specs/.
+#![tactic(auto)]
+
 ghost use Rattle.std.specs.Prelude.{◌≡◌};
 ghost use Rattle.basic.specs.Boxes as Boxes;
 ghost use Rattle.basic.specs.Round as Round;
@@ -74,7 +76,7 @@ pub fn inside_spherical_shell(center: Vec3, radius: f64, width: f64, p: Vec3) ->
 }
 
 // Where a point lies along an axis.
-#[derive(Drop)]
+#[derive(Clone, Copy)]
 pub enum Along {
     // The axis has no length.
     NoAxis,

@@ -10,7 +10,7 @@ use refusal::{Refusal, Verdict};
 use subtree::{Subtree, build_node};
 
 // What the builder answers: a refusal, or how many nodes it wrote.
-#[derive(Drop)]
+#[derive(Clone, Copy)]
 pub enum Built {
     Refused(Refusal),
     Nodes(usize),

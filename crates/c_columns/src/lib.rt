@@ -1,4 +1,6 @@
 // The C function for column text, as include/zirwennach.h declares it.
+#![tactic(auto)]
+
 ghost use Rattle.c_columns.specs.Columns as Columns;
 
 use column::Listed;

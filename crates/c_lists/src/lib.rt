@@ -1,4 +1,6 @@
 // The C function that answers a list of points, as include/zirwennach.h declares it.
+#![tactic(auto)]
+
 ghost use Rattle.mesh.specs.Mesh as Mesh;
 ghost use Rattle.tree.specs.Tree as Tree;
 ghost use Rattle.c_lists.specs.Lists as Lists;

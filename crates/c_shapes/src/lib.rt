@@ -1,5 +1,7 @@
 // The C functions for shapes and the square root, as include/zirwennach.h declares them. A shape function
 // answers 0 for outside, 1 for inside, or the refusal.
+#![tactic(auto)]
+
 ghost use Rattle.std.specs.Prelude.{◌≡◌, []};
 ghost use Rattle.sqrt.specs.Root as Root;
 ghost use Rattle.math.specs.Vectors.{vec};

@@ -1,12 +1,14 @@
 // The point of a triangle that is nearest to a point: csx's `closest_on_triangle`. The definitions are in
 // specs/Closest.antt.
+#![tactic(auto)]
+
 ghost use Rattle.std.specs.Prelude.{◌≡◌};
 ghost use Rattle.closest.specs.Closest as Closest;
 
 use math::Vec3;
 
 // The dot products of the edges ab and ac with the ways from a, b and c to the point.
-#[derive(Drop)]
+#[derive(Clone, Copy)]
 struct Products {
     d1: f64,
     d2: f64,

@@ -1,4 +1,6 @@
 // The column call: column text to a listing of answers (document 01, Column text). The definitions are in specs/.
+#![tactic(auto)]
+
 ghost use Rattle.std.specs.Prelude.{◌≡◌, length};
 ghost use Rattle.mesh.specs.Mesh as Mesh;
 ghost use Rattle.text.specs.declared.Judged.TheVariants as Judgements;
@@ -11,7 +13,7 @@ use refusal::Refusal;
 use text::{Counts, Judged};
 
 // How many bytes of a listing were written, or why none were.
-#[derive(Drop)]
+#[derive(Clone, Copy)]
 pub enum Listed {
     Refused(Refusal),
     Bytes(usize),

@@ -1,4 +1,6 @@
 // Angles of cylindrical coordinates, from csx's coords.rs. The definition is in specs/Angles.antt.
+#![tactic(auto)]
+
 ghost use Rattle.std.specs.Prelude.{◌≡◌};
 ghost use Rattle.coords.specs.Angles as Angles;
 

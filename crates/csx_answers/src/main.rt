@@ -2,6 +2,8 @@
 // csx is the Rust crate that the engine is a port of. The records come from standard input, a line each: the kind, how
 // many places each of nine buffers has, what they hold before the call, the number that it returns, and what they hold
 // after it. tests/README.md says how they are made again.
+#![tactic(auto)]
+
 mod buffers;
 mod calls;
 mod input;

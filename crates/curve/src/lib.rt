@@ -1,4 +1,6 @@
 // Membership of curves, wires and points, from csx's curve.rs. The definitions are in specs/Polylines.antt.
+#![tactic(auto)]
+
 ghost use Rattle.std.specs.Prelude.{◌≡◌};
 ghost use Rattle.curve.specs.Polylines as Polylines;
 

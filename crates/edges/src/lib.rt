@@ -1,5 +1,7 @@
 // The edges of a mesh as keys, and whether a mesh is closed: document 01, Mesh rule and Room. Sorted
 // keys tell in one pass whether each edge is used exactly twice. The definitions are in specs/.
+#![tactic(auto)]
+
 ghost use Rattle.std.specs.Prelude.{true, ◌≡◌, ◌≤◌, length, drop};
 ghost use Rattle.keys.specs.Sorting.{sorted};
 ghost use Rattle.lent.specs.Over.{over};

@@ -1,5 +1,7 @@
 // What the builder measures of a node's items: the axis on which they are split, and the node's box. The
 // definitions are in specs/Extent.antt.
+#![tactic(auto)]
+
 ghost use Rattle.std.specs.Prelude.{◌≡◌, ◌<◌, length, take, drop};
 ghost use Rattle.keys.specs.Sorting.{sorted};
 ghost use Rattle.math.specs.Boxes as Boxes;
@@ -110,7 +112,7 @@ fn middle_rank(centers: BoundingBox, axis: u64) -> u64
 
 // The axis on which a node's items are split, and a rank near their middle on it (a guess: nothing is
 // promised of it).
-#[derive(Drop)]
+#[derive(Clone, Copy)]
 pub struct Split {
     pub axis: usize,
     pub pivot: u64,
@@ -150,7 +152,7 @@ pub fn leaf_box(
 }
 
 // The lowest-numbered item so far whose edge is zero, and that edge.
-#[derive(Drop)]
+#[derive(Clone, Copy)]
 struct Found {
     item: u32,
     edge: f64,

@@ -1,10 +1,12 @@
 // Numbers in fields of a fixed width: how one is read, and how one is written. The definitions are in
 // specs/Fields.antt.
+#![tactic(auto)]
+
 ghost use Rattle.std.specs.Prelude.{◌≡◌, true, false, ◌≤◌, length, drop, replicate};
 ghost use Rattle.fields.specs.Fields as Fields;
 
 // What a field says.
-#[derive(Drop)]
+#[derive(Clone, Copy)]
 pub enum Field {
     Bad,
     Number { negative: bool, magnitude: u64 },

@@ -1,5 +1,6 @@
 // Operations on `f64` as Rust's standard library has them, and the sort key of an `f64`. The definitions
 // are in specs/Rules.antt and specs/TotalOrder.antt, the theorems about them in specs/OrderTheorems.antt.
+#![tactic(auto)]
 
 ghost use Rattle.std.specs.Prelude.{◌≡◌};
 ghost use Rattle.float.specs.Order.{Number};

@@ -1,5 +1,7 @@
 // Helpers that several shapes share, from csx's geom.rs: closed intervals with a tolerance, distances
 // from segments, and the even-odd test of a polygon. The definitions are in specs/.
+#![tactic(auto)]
+
 ghost use Rattle.std.specs.Prelude.{◌≡◌, ◌+◌, ◌*◌, ◌<◌, length};
 ghost use Rattle.geom.specs.Tolerance as Tolerance;
 ghost use Rattle.geom.specs.Segments as Segments;
@@ -11,7 +13,7 @@ use math::Vec3;
 pub const REL_TOL: f64 = 1e-12;
 
 // A point in the plane of a polygon.
-#[derive(Drop)]
+#[derive(Clone, Copy)]
 pub struct Point2 {
     pub u: f64,
     pub v: f64,

@@ -1,5 +1,7 @@
 // Whether a tree's items name each triangle once, by counting them in the lent work places. The definitions are
 // in specs/Counting.antt.
+#![tactic(auto)]
+
 ghost use Rattle.std.specs.Prelude.{◌≡◌, ◌≤◌, length};
 ghost use Rattle.items.specs.Counting as Counting;
 

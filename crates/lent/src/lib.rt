@@ -1,4 +1,6 @@
 // What calls write into the buffers that they are lent. The definitions are in specs/Over.antt.
+#![tactic(auto)]
+
 ghost use Rattle.std.specs.Prelude.{◌≡◌, ◌≤◌, length, replicate};
 ghost use Rattle.lent.specs.Over.{over};
 

@@ -1,4 +1,6 @@
 // Listings: the header, and a row for each answer. The definitions are in specs/Listing.antt.
+#![tactic(auto)]
+
 ghost use Rattle.std.specs.Prelude.{◌≡◌, ◌*◌, ◌≤◌, length};
 ghost use Rattle.lent.specs.Over.{over};
 ghost use Rattle.listing.specs.Listing as Listing;

@@ -1,11 +1,13 @@
 // Points, directions and boxes: csx's `Vec3` and `BoundingBox` (math.rs), passed and returned by value.
 // The definitions are in specs/Vectors.antt and specs/Boxes.antt.
+#![tactic(auto)]
+
 ghost use Rattle.std.specs.Prelude.{◌≡◌, ◌+◌, ◌<◌, length};
 ghost use Rattle.math.specs.Vectors as Vectors;
 ghost use Rattle.math.specs.Boxes as Boxes;
 
 // A point or a direction.
-#[derive(Drop)]
+#[derive(Clone, Copy)]
 pub struct Vec3 {
     pub x: f64,
     pub y: f64,
@@ -127,7 +129,7 @@ impl Vec3 {
 }
 
 // A closed box with its faces square to the axes.
-#[derive(Drop)]
+#[derive(Clone, Copy)]
 pub struct BoundingBox {
     pub min: Vec3,
     pub max: Vec3,

@@ -13,7 +13,7 @@ use crate::Triangle;
 use math::{BoundingBox, Vec3};
 
 // What is computed of a mesh once for a list of points.
-#[derive(Drop)]
+#[derive(Clone, Copy)]
 pub struct Bounds {
     // The mesh's box, larger by the tolerance: a point outside it is outside the mesh.
     pub grown: BoundingBox,

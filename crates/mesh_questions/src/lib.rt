@@ -1,4 +1,6 @@
 // Document 01's questions 1 to 5 of a mesh. The definitions are in specs/Questions.antt.
+#![tactic(auto)]
+
 ghost use Rattle.std.specs.Prelude.{◌≡◌, true, ◌≤◌, length};
 ghost use Rattle.math.specs.Vectors.{points};
 ghost use Rattle.mesh_questions.specs.Faces.{faces};
@@ -9,7 +11,7 @@ use math::Vec3;
 use refusal::{Refusal, Verdict};
 
 // The counts of an accepted mesh.
-#[derive(Drop)]
+#[derive(Clone, Copy)]
 pub struct Counts {
     pub vertices: usize,
     pub faces: usize,
@@ -17,7 +19,7 @@ pub struct Counts {
 }
 
 // What questions 1 to 5 answer.
-#[derive(Drop)]
+#[derive(Clone, Copy)]
 pub enum Asked {
     Refused(Refusal),
     Accepted(Counts),

@@ -1,5 +1,7 @@
 // What the numbers of column text become: coordinates, corners and face ends. The definitions are in
 // specs/Numbers.antt.
+#![tactic(auto)]
+
 ghost use Rattle.std.specs.Prelude.{◌≡◌, true, ◌*◌, ◌/◌, ◌≤◌, length};
 ghost use Rattle.lent.specs.Over.{over};
 ghost use Rattle.math.specs.Vectors.{vec};

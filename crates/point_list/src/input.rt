@@ -5,7 +5,7 @@ ghost use Rattle.point_list.specs.Input as Inputs;
 use libc::STDIN_FILENO;
 
 // How many bytes were read, or that reading failed.
-#[derive(Drop)]
+#[derive(Clone, Copy)]
 pub enum Input {
     Failed,
     Bytes(usize),

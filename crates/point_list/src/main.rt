@@ -1,5 +1,7 @@
 // The program point-list: column text from standard input, the listing of its points' answers to standard output
 // (document 01, Column text).
+#![tactic(auto)]
+
 mod input;
 mod work;
 

@@ -1,5 +1,7 @@
 // The answer to one point over a lent tree. The definition is the plain scan's, `plain_scan` in crate scan: the tree does
 // not show in it.
+#![tactic(auto)]
+
 ghost use Rattle.std.specs.Prelude.{◌≡◌};
 ghost use Rattle.mesh.specs.Mesh as Mesh;
 ghost use Rattle.tree.specs.Tree as Tree;
@@ -13,7 +15,7 @@ use scan::votes::Votes;
 use surface_walk::surface_walk;
 
 // What is worked out once for a list of points, of the mesh and of the three directions.
-#[derive(Drop)]
+#[derive(Clone, Copy)]
 pub struct Prepared {
     // How triangles are found: `mesh::triangles::sides`.
     pub sides: usize,

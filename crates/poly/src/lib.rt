@@ -1,5 +1,7 @@
 // Membership of polygons and of polygons extruded along their normal axis, from csx's poly.rs. The
 // definitions are in specs/Planes.antt.
+#![tactic(auto)]
+
 ghost use Rattle.std.specs.Prelude.{◌≡◌};
 ghost use Rattle.poly.specs.Planes as Planes;
 
@@ -7,7 +9,7 @@ use geom::Point2;
 use math::Vec3;
 
 // The two axes of a plane, each 0, 1 or 2.
-#[derive(Drop)]
+#[derive(Clone, Copy)]
 pub struct Axes {
     pub u: u64,
     pub v: u64,

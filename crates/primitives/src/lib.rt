@@ -1,5 +1,7 @@
 // The question whether a point lies in a shape that is no mesh: document 01's questions 11, 10 and 9, and then
 // the shape's rule. The definitions are in specs/Questions.antt.
+#![tactic(auto)]
+
 ghost use Rattle.std.specs.Prelude.{◌≡◌};
 ghost use Rattle.primitives.specs.Questions as Questions;
 
@@ -8,7 +10,7 @@ use refusal::Refusal;
 use shapes::Shape;
 
 // What a shape question answers.
-#[derive(Drop)]
+#[derive(Clone, Copy)]
 pub enum Answer {
     Outside,
     Inside,

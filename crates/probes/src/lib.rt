@@ -1,4 +1,6 @@
 // C forms of inner functions, for the differential driver alone: none is in the engine's header.
+#![tactic(auto)]
+
 pub mod meshes;
 
 ghost use Rattle.std.specs.Prelude.{◌≡◌, ◌*◌, ◌%◌, ◌^◌, ◌⊎◌};

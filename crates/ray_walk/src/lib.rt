@@ -1,4 +1,6 @@
 // The ray walk: the vote of a direction. The definitions are in crate scan, specs/Scan.antt, and crate walks, specs/Walks.antt.
+#![tactic(auto)]
+
 ghost use Rattle.std.specs.Prelude.{◌≡◌, ◌+◌, ◌≤◌, ◌<◌, true, map, length};
 ghost use Rattle.mesh.specs.Boxes.{Corners};
 ghost use Rattle.mesh.specs.Items as Items;
@@ -28,7 +30,7 @@ const RAY_DIRS: [[f64; 3]; 3] = [
 ];
 
 // Where among the six floats of a node the nearer plane of each slab stands.
-#[derive(Drop)]
+#[derive(Clone, Copy)]
 pub struct Near {
     pub x: usize,
     pub y: usize,
@@ -36,7 +38,7 @@ pub struct Near {
 }
 
 // A ray: where it begins, its direction, one over that, axis by axis, and the places of the nearer planes.
-#[derive(Drop)]
+#[derive(Clone, Copy)]
 pub struct Ray {
     pub origin: Vec3,
     pub direction: Vec3,

@@ -1,5 +1,7 @@
 // How a ray meets boxes and triangles: csx's `ray_hits_box` and `ray_triangle`. The definitions are in
 // specs/Rays.antt.
+#![tactic(auto)]
+
 ghost use Rattle.std.specs.Prelude.{◌≡◌};
 ghost use Rattle.float.specs.Order.{Number};
 ghost use Rattle.rays.specs.Rays as Rays;
@@ -18,7 +20,7 @@ const ONE_PLUS_RIM: f64 = 1.000000001;
 const ONE_MINUS_RIM: f64 = 0.999999999;
 
 // What a ray does at a triangle.
-#[derive(Drop)]
+#[derive(Clone, Copy)]
 pub enum RayHit {
     Miss,
     Hit,

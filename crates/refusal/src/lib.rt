@@ -1,9 +1,11 @@
 // Why a call is turned down: a case for each question that document 01 asks, with the place of the
 // fault where the question names one. Places count from 0, lines of a text from 1.
+#![tactic(auto)]
+
 ghost use Rattle.std.specs.Prelude.{◌≡◌};
 ghost use Rattle.refusal.specs.Numbers as Numbers;
 
-#[derive(Drop)]
+#[derive(Clone, Copy)]
 pub enum Refusal {
     // The coordinate list is no whole number of vertices, or has too many.
     Coordinates,
@@ -81,7 +83,7 @@ impl Refusal {
 }
 
 // What a block of questions says: that all of them pass, or the first refusal.
-#[derive(Drop)]
+#[derive(Clone, Copy)]
 pub enum Verdict {
     Passed,
     Refused(Refusal),

@@ -6,7 +6,7 @@ ghost use Rattle.scan.specs.ScanLaws as ScanLaws;
 use rays::RayHit;
 
 // The vote of a direction.
-#[derive(Drop)]
+#[derive(Clone, Copy)]
 pub enum Vote {
     // The ray passes an edge or a corner too closely to say.
     None,
@@ -15,7 +15,7 @@ pub enum Vote {
 }
 
 // How many votes are odd, and how many even.
-#[derive(Drop)]
+#[derive(Clone, Copy)]
 pub struct Votes {
     pub odd: usize,
     pub even: usize,

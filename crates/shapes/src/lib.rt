@@ -1,5 +1,7 @@
 // The shapes that are no mesh, and the rule of each: csx's `Shape` and its dispatch (mod.rs). The definitions
 // are in specs/Shapes.antt.
+#![tactic(auto)]
+
 ghost use Rattle.std.specs.Prelude.{◌≡◌};
 ghost use Rattle.shapes.specs.Shapes as Shapes;
 
@@ -8,7 +10,7 @@ use math::Vec3;
 // A shape's numbers. The vertices of polygons, the points of curves and wires and the corners of
 // multi-boxes are in the list that is lent beside the shape. The other shapes take no list, and one
 // that is lent beside them is not read.
-#[derive(Drop)]
+#[derive(Clone, Copy)]
 pub enum Shape {
     // Between two opposite corners.
     Box {

@@ -1,4 +1,6 @@
 // The square root of any f64, correctly rounded, worked out from the bits with whole numbers.
+#![tactic(auto)]
+
 pub mod significand;
 
 ghost use Rattle.std.specs.Prelude.{◌≡◌, false, ◌+◌, ◌-◌, ◌*◌, ◌/◌, ◌%◌, ◌^◌, ◌≤◌, ◌<◌};
@@ -9,7 +11,7 @@ ghost use Rattle.sqrt.specs.Steps.{Scales};
 use crate::significand::nearest_root;
 
 // A positive finite value as 53 digits and an exponent: (2^52 + digits % 2^52) * 2^g / 2^2148.
-#[derive(Drop)]
+#[derive(Clone, Copy)]
 pub struct Scaled {
     pub digits: u64,
     pub g: u64,

@@ -7,7 +7,7 @@ ghost use Rattle.sqrt.specs.Root.{nearest_root};
 ghost use Rattle.sqrt.specs.Steps.{Finds};
 
 // What a look at a guess and its neighbours finds: the root, or that none of them is it.
-#[derive(Drop)]
+#[derive(Clone, Copy)]
 pub enum Found {
     At(u64),
     Missed,

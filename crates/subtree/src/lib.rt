@@ -1,6 +1,8 @@
 // The subtree over some items of a mesh, written into the lent lists (csx's bvh.rs): a leaf, or both halves and the
 // node above them. The definitions are in crate builder, specs/Builder.antt (the rule), and in specs/Subtree.antt
 // (the room and the promise).
+#![tactic(auto)]
+
 pub mod leaf;
 
 ghost use Rattle.std.specs.Prelude.{◌≡◌, ◌+◌, ◌*◌, ◌≤◌, ◌<◌, length, set};
@@ -15,7 +17,7 @@ use math::BoundingBox;
 use median::halve;
 
 // What was written of a subtree: the next free node is `end`, and the root's box is `bounds`.
-#[derive(Drop)]
+#[derive(Clone, Copy)]
 pub struct Subtree {
     pub end: usize,
     pub bounds: BoundingBox,

@@ -1,5 +1,7 @@
 // The surface walk: whether a point is near a triangle. The definitions are in crate scan, specs/Scan.antt, and crate
 // walks, specs/Walks.antt.
+#![tactic(auto)]
+
 ghost use Rattle.std.specs.Prelude.{◌≡◌, ◌+◌, ◌*◌, ◌≤◌, ◌<◌, length};
 ghost use Rattle.mesh.specs.Boxes.{Corners};
 ghost use Rattle.mesh.specs.Items as Items;

@@ -1,12 +1,14 @@
 // Lines of column text: the kind of a line, and the first bad line of a text. The definitions are in
 // specs/Lines.antt.
+#![tactic(auto)]
+
 ghost use Rattle.std.specs.Prelude.{◌≡◌, ◌+◌, ◌≤◌, ◌<◌, length, take, drop};
 ghost use Rattle.text.specs.Lines as Lines;
 
 use fields::{Field, read_field};
 
 // What a line is.
-#[derive(Drop)]
+#[derive(Clone, Copy)]
 pub enum Kind {
     Bad,
     Vertex,
@@ -15,7 +17,7 @@ pub enum Kind {
 }
 
 // How many lines there are of each kind.
-#[derive(Drop)]
+#[derive(Clone, Copy)]
 pub struct Counts {
     pub vertices: usize,
     pub triangles: usize,
@@ -23,7 +25,7 @@ pub struct Counts {
 }
 
 // The number of the first bad line, or how many lines there are of each kind.
-#[derive(Drop)]
+#[derive(Clone, Copy)]
 pub enum Judged {
     BadLine(u32),
     Good(Counts),

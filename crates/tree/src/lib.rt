@@ -1,11 +1,13 @@
 // A lent box tree: the tree rules, the test that computes them, and how a node's box is read. The definitions are in specs/.
+#![tactic(auto)]
+
 ghost use Rattle.std.specs.Prelude.{◌≡◌, ◌+◌, ◌*◌, ◌<◌, length};
 ghost use Rattle.tree.specs.Tree as Tree;
 
 use math::{BoundingBox, Vec3};
 
 // What the walk over a subtree finds.
-#[derive(Drop)]
+#[derive(Clone, Copy)]
 pub enum Walked {
     // The tree does not keep the rules.
     Fault,

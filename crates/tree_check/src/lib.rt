@@ -1,5 +1,7 @@
 // The tree check: document 01's questions 1 to 7. The definitions are in specs/Check.antt (the questions and
 // the promise) and in crate tree, specs/TreeTest.antt (the tree rules as a test).
+#![tactic(auto)]
+
 ghost use Rattle.std.specs.Prelude.{◌≡◌, ◌&&◌, ◌+◌, ◌-◌, ◌*◌, ◌/◌, ◌≤◌, ◌<◌, eqb, length};
 ghost use Rattle.mesh_questions.specs.Accepted.{Accepted};
 ghost use Rattle.mesh.specs.Triangles as Triangles;

@@ -3,7 +3,7 @@ ghost use Rattle.std.specs.Prelude.{◌≡◌, ◌+◌, ◌*◌, ◌<◌, length
 ghost use Rattle.walks.specs.Stacks as Stacks;
 
 // A leaf's first item place and its number of items, or an inner node's right child and 0.
-#[derive(Drop)]
+#[derive(Clone, Copy)]
 pub struct Node {
     pub start: usize,
     pub count: usize,
@@ -11,7 +11,7 @@ pub struct Node {
 
 // Where a walk is: at the root of a subtree that is to be visited, with so many to come, this one included. The roots of
 // the others are on the walk's stack, the next one at place `height - 1`; place 0 has the number of nodes.
-#[derive(Drop)]
+#[derive(Clone, Copy)]
 pub struct Place {
     pub node: usize,
     pub height: usize,

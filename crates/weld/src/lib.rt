@@ -1,6 +1,8 @@
 // Welding triangles into a mesh: csx's `Polyhedron::from_triangles` (polyhedron.rs), after document
 // 01's questions 1, 5 and 6. The definitions are in specs/Welding.antt (the mesh) and
 // specs/Questions.antt (the questions and the promise).
+#![tactic(auto)]
+
 ghost use Rattle.std.specs.Prelude.{◌≡◌, true, ◌+◌, ◌*◌, ◌/◌, ◌<◌, ◌≤◌, length};
 ghost use Rattle.math.specs.Vectors.{at};
 ghost use Rattle.mesh.specs.Boxes.{vertex};
@@ -14,28 +16,28 @@ use mesh::Triangle;
 use refusal::{Refusal, Verdict};
 
 // What `from_triangles` answers: a refusal, or how many vertices and faces it wrote.
-#[derive(Drop)]
+#[derive(Clone, Copy)]
 pub enum Welded {
     Refused(Refusal),
     Sizes { vertices: usize, faces: usize },
 }
 
 // How many vertices and faces are written.
-#[derive(Drop)]
+#[derive(Clone, Copy)]
 struct Counts {
     vertices: usize,
     faces: usize,
 }
 
 // A corner's vertex number, and how many vertices are written now.
-#[derive(Drop)]
+#[derive(Clone, Copy)]
 struct Corner {
     number: u32,
     count: usize,
 }
 
 // The vertex numbers of a triangle's corners, and how many vertices are written now.
-#[derive(Drop)]
+#[derive(Clone, Copy)]
 struct Numbered {
     triangle: Triangle,
     count: usize,

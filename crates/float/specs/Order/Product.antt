@@ -149,7 +149,7 @@ zero_mul f nan y z q = absurd z.0
 zero_mul f (inf s) y z q = absurd z.0
 zero_mul f (fin s m e) nan z q = absurd q
 zero_mul f (fin s m e) (inf t) z q = absurd q
-zero_mul f (fin s m e) (fin t n d) z q = unfold mul in rw (z.1, Nat.zero_mul, round_zero f (unlike s t) (down e * down d) (mul-pos (down_pos e) (down_pos d))) (tt, refl)
+zero_mul f (fin s m e) (fin t n d) z q = unfold mul in rw (z.1, Nat.zero-mul, round_zero f (unlike s t) (down e * down d) (mul-pos (down_pos e) (down_pos d))) (tt, refl)
 
 nan_mul : (f : Format) (x y : Float) → Zero x → T (not (finite y)) → mul f x y ≡ nan
 unfolding mul

@@ -61,8 +61,8 @@ unlike_rounded f a b c = go (ltb a b) (ltb→lt a b) (nltb→le a b)
 sum_rounded : (f : Format) (s : Bool) (a : ℕ) (t : Bool) (b c : ℕ) → Rounded f (sum f s a t b c) (cond s 0 a + cond t 0 b) (cond s a 0 + cond t b 0) c
 sum_rounded f false a false b c = (false, a + b, omega arith, unfold sum in refl)
 sum_rounded f true a true b c = (true, a + b, omega arith, unfold sum in refl)
-sum_rounded f false a true b c = rw (Nat.add-zero a, Nat.zero_add b) (unlike_rounded f a b c)
-sum_rounded f true a false b c = rw (Nat.add-zero a, Nat.zero_add b, ← unlike_comm f b a c) (unlike_rounded f b a c)
+sum_rounded f false a true b c = rw (Nat.add-zero a, Nat.zero-add b) (unlike_rounded f a b c)
+sum_rounded f true a false b c = rw (Nat.add-zero a, Nat.zero-add b, ← unlike_comm f b a c) (unlike_rounded f b a c)
 
 add_rounded : (f : Format) (x y : Float) → T (finite x) → T (finite y) → Rounded f (add f x y) (P x * den y + P y * den x) (N x * den y + N y * den x) (den x * den y)
 unfolding add

@@ -5,8 +5,7 @@ use lib.Ieee.{Float, nan, inf, fin, binary64, sub, eq}
 use lib.Ieee.Bits.{is_true}
 use Rattle.float.specs.Rules.{is_finite}
 use Rattle.float.specs.Order.{finite_number, le_refl, le_antisym, sub_number_left}
-use Rattle.float.proofs.is_finite.Statement.{statement}
-use Rattle.float.proofs.is_finite.Tie as tie
+use Rattle.float.proofs.is_finite.Goals as goal
 
 difference : (x : Float) → eq (sub binary64 x x) (sub binary64 x x) ≡ is_finite x
 unfolding is_finite
@@ -19,8 +18,5 @@ difference (fin s m e) =
     let same = le_refl d (sub_number_left binary64 x x tt (finite_number x tt)) in
     is_true (eq d d) (le_antisym d d same same)
 
-returns : tie.Need-returns
+pub returns : goal.returns
 returns c = difference c.args.x
-
-pub is_finite_spec : {M : Type 1} → statement M
-is_finite_spec = tie.close (tie.spec returns)

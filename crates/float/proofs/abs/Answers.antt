@@ -14,8 +14,7 @@ use Rattle.float.specs.Rules.{abs}
 use Rattle.float.specs.TotalOrder.{negative}
 use Rattle.float.specs.OrderTheorems.{sign_bit_lem, pattern_le}
 use Rattle.float.specs.Patterns.{is_nan_lem, no_nan}
-use Rattle.float.proofs.abs.Statement.{statement}
-use Rattle.float.proofs.abs.Tie as tie
+use Rattle.float.proofs.abs.Goals as goal
 
 abs_fits : (x : Float) → T (fits binary64 x) → T (fits binary64 (abs x))
 unfolding abs fits
@@ -39,24 +38,21 @@ abs_pattern (fin s m e) h n = unsigned s _ _ (leb-false (2 ^ 63) (to_bits binary
 abs_bits : (x : Float) → T (fits binary64 x) → T (not (is_nan x)) → of_bits binary64 (to_bits binary64 x % 2 ^ 63) ≡ abs x
 abs_bits x h n = ap (of_bits binary64) (abs_pattern x h n) ∙ of_bits-to_bits binary64 (abs x) (abs_fits x h)
 
-returns : tie.Need-returns
+pub returns-then-x : goal.returns-then-x
 unfolding abs
-returns c = rw (is_nan_lem c.before.args.x c.if1.true)
+returns-then-x c = rw (is_nan_lem c.args.x c.if-x.true)
 
-float_to_bits_result : tie.Need-float-to-bits-result
-float_to_bits_result c = no_nan c.before.args.x c.if1.false
+pub float_to_bits-result : goal.float_to_bits-result
+float_to_bits-result c = no_nan c.args.x c.if-x.false
 
-float_from_bits_result : tie.Need-float-from-bits-result
-float_from_bits_result c =
-    let x = c.before.args.x in
-    let h = passes (fits binary64 x) c.before.well-formed.0.1 in
-    let n = no_nan x c.if1.false in
+pub float_from_bits-result : goal.float_from_bits-result
+float_from_bits-result c =
+    let x = c.args.x in
+    let h = passes (fits binary64 x) c.well_formed.0.1 in
+    let n = no_nan x c.if-x.false in
     rw (nan_bits_above binary64 _) (omega (arith, le→nltb, to_bits-lt binary64 x h, pattern_le x h n))
 
-returns_2 : tie.Need-returns-2
-returns_2 c =
-    let x = c.before.args.x in
-    abs_bits x (passes (fits binary64 x) c.before.well-formed.0.1) (no_nan x c.if1.false)
-
-pub abs_spec : {M : Type 1} → statement M
-abs_spec = tie.close (tie.spec returns float_to_bits_result float_from_bits_result returns_2)
+pub returns : goal.returns
+returns c =
+    let x = c.args.x in
+    abs_bits x (passes (fits binary64 x) c.well_formed.0.1) (no_nan x c.if-x.false)

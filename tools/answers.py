@@ -1,0 +1,296 @@
+#!/usr/bin/env python3
+"""Turns the proofs/F/Proof.antt of a crate, which walk the code by an older Rattle's names, into Invariants.antt and Answers.antt.
+
+usage: tools/answers.py CRATE NAMES [F..]
+    CRATE: the crate's folder; NAMES: names.json as `rt check --generated DIR --old-names` writes it
+
+What it cannot turn stays in the text, with a line 'left:' on standard output.
+"""
+
+import json
+import os
+import re
+import sys
+
+NAME = r"[^\s(){}\[\];,.@\"«»`]+"
+DECL = re.compile(rf"^((?:(?:abbrev|unfoldable|pub|data|record) )*)({NAME})(?: \{{[^}}\n]*\}})* :(?= |$)")
+
+
+def norm(n):
+    return n.replace("_", "-").replace("·", "-")
+
+
+def chunks(text):
+    """The top: imports and comments; then each declaration with the comment above it."""
+    lines = text.split("\n")
+    head, decls, cur = [], [], None
+    names = {}
+    pending = []
+    i = 0
+    while i < len(lines) and (lines[i].startswith(("--", "use ")) or not lines[i].strip()):
+        head.append(lines[i])
+        i += 1
+    while head and (head[-1].startswith("--")):
+        i -= 1
+        head.pop()
+    cur = None
+    for l in lines[i:]:
+        m = DECL.match(l)
+        if m or l.startswith("module "):
+            cur = {"mods": m[1].split() if m else ["module"], "name": m[2] if m else l, "lines": pending + [l]}
+            cur["sig_at"] = len(pending)
+            pending = []
+            decls.append(cur)
+        elif l.startswith("--"):
+            pending.append(l)
+        elif cur is None or (not l.strip()):
+            if not pending and cur is not None:
+                cur["lines"].append(l)
+        else:
+            cur["lines"].extend(pending)
+            pending = []
+            cur["lines"].append(l)
+    for d in decls:
+        while d["lines"] and not d["lines"][-1].strip():
+            d["lines"].pop()
+    return head, decls
+
+
+class Fn:
+    def __init__(self, info, said):
+        self.info = info
+        self.said = said
+        self.places = info["places"]
+        self.new = dict(zip([p[0] for p in self.places], info["places_by_name"]))
+        self.at = {p[0]: p for p in self.places}
+        self.needs = {}
+        for (old, new), asked in zip(info["needs"], info["asked_at"]):
+            self.needs.setdefault(norm(old), (new, asked[0]))
+
+    def path(self, place, words, where):
+        """c at `place` followed by words: the new words."""
+        words = list(words)
+        ups = 0
+        while words and words[0] == "before":
+            words.pop(0)
+            ups += 1
+        chain = [place]
+        while self.at[chain[-1]][1] is not None:
+            chain.append(self.at[chain[-1]][1])
+        if not words:
+            if ups >= len(chain):
+                self.said(f"{where}: before the start")
+                return None
+            return ("place", chain[ups])
+        w = words[0]
+        if w in ("args", "requires", "well-formed", "well_formed", "lifetimes", "ranges"):
+            if w == "well-formed":
+                words[0] = "well_formed"
+            if w == "requires" and len(words) > 1 and re.fullmatch(r"\d+", words[1]):
+                pre = self.info.get("pre")
+                if pre and pre.get("fields"):
+                    words[1] = pre["fields"][int(words[1])]
+                elif words[1] == "0":
+                    del words[1]
+            return ("words", words)
+        fits = [k for k, q in enumerate(chain) if norm(self.at[q][2][0]) == norm(w)]
+        if fits:
+            k = min(fits, key=lambda k: abs(k - ups))
+            step = self.at[chain[k]][2]
+            words[0] = step[1]
+            i = [x[0] for x in self.places].index(chain[k])
+            # clauses by number
+            if len(words) > 2 and words[1] in ("ensures",) and re.fullmatch(r"\d+", words[2]):
+                labels = self.info["clauses"][i] if i < len(self.info["clauses"]) else None
+                if labels:
+                    self.said(f"{where}: clauses {labels}")
+                    try:
+                        words[2] = labels[int(words[2])]
+                    except Exception:
+                        pass
+            return ("words", words)
+        if ups:
+            self.said(f"{where}: no step {w}")
+        # the step of a place further down, or a field that stays
+        return ("words", words)
+
+    def turn(self, place, var, body, where):
+        alias = {var: place}
+
+        def sub(text):
+            def one(m):
+                v, rest = m[1], m[2]
+                if v not in alias:
+                    return m[0]
+                words = rest.split(".")[1:] if rest else []
+                r = self.path(alias[v], words, where)
+                if r is None:
+                    return m[0]
+                kind, x = r
+                if kind == "place":
+                    return var
+                return ".".join([var] + x)
+
+            return re.sub(rf"(?<![^\s(){{}}\[\];,@])([A-Za-z_][\w']*)((?:\.{NAME})*)", one, text)
+
+        out = []
+        for l in body:
+            # let s = c.before.before in
+            m = re.match(rf"^(\s*)let ([\w']+) = ([\w']+)((?:\.before)*) in$", l)
+            if m and m[3] in alias:
+                r = self.path(alias[m[3]], m[4].split(".")[1:], where)
+                if r and r[0] == "place":
+                    alias[m[2]] = r[1]
+                    continue
+            out.append(sub(l))
+        return out
+
+
+def main(crate, names, only):
+    info_all = json.load(open(names))
+    crate_name = os.path.basename(os.path.abspath(crate))
+    for folder, dirs, files in os.walk(os.path.join(crate, "proofs")):
+        if "Proof.antt" not in files:
+            continue
+        rel = os.path.relpath(folder, os.path.join(crate, "proofs"))
+        if only and rel not in only:
+            continue
+        mod = rel.replace("/", ".")
+        key = f"Rattle-{crate_name}-proofs.{mod}.Lts"
+        where0 = f"left: {crate_name}/{rel}"
+        if key not in info_all:
+            print(f"{where0}: no {key}")
+            continue
+        info = info_all[key]
+        fn = Fn(info, lambda s: print(f"left: {s}"))
+        text = open(os.path.join(folder, "Proof.antt"), encoding="utf-8").read()
+        head, decls = chunks(text)
+        answers, invariants = [], []
+        inv_names = {}
+        for d in decls:
+            sig = d["lines"][d["sig_at"]]
+            where = f"{crate_name}/{rel}: {d['name']}"
+            m = re.search(r": tie\.(invariant|decreases)[-_](\S+)", sig)
+            if m:
+                old = m[2]
+                loop = None
+                for k, (l, vs) in enumerate(info["loops"]):
+                    if norm(l[0]) == norm(old):
+                        loop, changed = (l, vs), info["changed"][k]
+                if loop is None:
+                    print(f"left: {where}: no loop {old}")
+                    invariants.append(d["lines"])
+                    continue
+                new = f"{m[1]}-{loop[0][1]}"
+                inv_names[d["name"]] = new
+                # the equation
+                eq_at = next(i for i, l in enumerate(d["lines"]) if l.startswith(d["name"] + " ") and i > d["sig_at"])
+                eq = d["lines"][eq_at]
+                mm = re.match(rf"^{re.escape(d['name'])} (.*?) =( .*)?$", eq)
+                params = mm[1].split()
+                vs = loop[1]
+                table = {}
+                n = len(vs)
+                back = [v for v, c in zip(vs, changed) if c]
+                if len(params) != n + len(back):
+                    print(f"left: {where}: {len(params)} parameters for {vs} {changed}")
+                for p, v, c in zip(params[:n], vs, changed):
+                    table[p] = f"l.initial.{v}" if c else f"l.{v}"
+                for p, v in zip(params[n:], back):
+                    table[p] = f"l.{v}"
+                body = [(mm[2] or "").strip()] + d["lines"][eq_at + 1 :]
+
+                def put(t):
+                    return re.sub(rf"(?<![^\s(){{}}\[\];,@])({NAME})", lambda k: table.get(k[1], k[1]), t)
+
+                body = [put(b) for b in body]
+                pre = d["lines"][: d["sig_at"]]
+                mid = d["lines"][d["sig_at"] + 1 : eq_at]
+                one = pre + [f"abbrev pub {new} : goal.{new}"] + mid + [f"{new} l = {body[0]}".rstrip()] + body[1:]
+                invariants.append(one)
+                continue
+            m = re.search(r": tie\.Need-(\S+)", sig)
+            if m:
+                need = norm(m[1])
+                if need not in fn.needs and "-" in need and need.split("-", 1)[1] in fn.needs:
+                    need = need.split("-", 1)[1]
+                if need not in fn.needs and d["lines"][-1].endswith("= search rules"):
+                    continue
+                if need not in fn.needs:
+                    print(f"left: {where}: no goal {m[1]}; there are {[x[0] for x in info['needs']]}")
+                    answers.append(d["lines"])
+                    continue
+                new, place = fn.needs[need]
+                eq_at = next((i for i, l in enumerate(d["lines"]) if l.startswith(d["name"] + " ") and i > d["sig_at"]), None)
+                if eq_at is None:
+                    print(f"left: {where}: no equation")
+                    answers.append(d["lines"])
+                    continue
+                mm = re.match(rf"^{re.escape(d['name'])} (.*?) =( .*)?$", d["lines"][eq_at])
+                params = mm[1].split()
+                var = params[-1]
+                c = next((p for p in params if p == "c"), params[0])
+                body = [(mm[2] or "").strip()] + d["lines"][eq_at + 1 :]
+                mid = d["lines"][d["sig_at"] + 1 : eq_at]
+                whole = " ".join(b.strip() for b in body).strip()
+                if whole == "search rules" and not mid:
+                    continue
+                body = fn.turn(place, c, body, where)
+                pre = d["lines"][: d["sig_at"]]
+                ps = [p for p in params if p != "κs"]
+                answers.append(pre + [f"pub {new} : goal.{new}"] + mid + [f"{new} {' '.join(ps)} = {body[0]}".rstrip()] + body[1:])
+                continue
+            if "tie.close" in "\n".join(d["lines"]):
+                continue
+            answers.append(d["lines"])
+        imports = [l for l in head if l.startswith("use ") and not re.search(r"\.(Statement|Tie)\b", l)]
+        comments = []
+        for l in head:
+            if l.startswith("--"):
+                comments.append(l)
+            else:
+                break
+        # helpers that invariants cite go before them
+        inv_text = "\n".join("\n".join(x) for x in invariants)
+        shared = []
+        if invariants:
+            moved = True
+            while moved:
+                moved = False
+                for a in list(answers):
+                    n = DECL.match(next((l for l in a if DECL.match(l)), ""))
+                    if not n or n[2].startswith(("loop-", "returns")) or "goal." in "\n".join(a):
+                        continue
+                    if re.search(rf"(?<![^\s(){{}}\[\];,.@]){re.escape(n[2])}(?![^\s(){{}}\[\];,.@])", inv_text):
+                        answers.remove(a)
+                        k = next(i for i, l in enumerate(a) if DECL.match(l))
+                        if "pub" not in a[k].split(" : ")[0].split():
+                            a[k] = re.sub(r"^((?:(?:abbrev|unfoldable) )*)", r"\1pub ", a[k])
+                        shared.append((n[2], a))
+                        inv_text += "\n" + "\n".join(a)
+                        moved = True
+        path = f"Rattle.{crate_name}.proofs.{mod}"
+
+        def named(t):
+            for a, b in inv_names.items():
+                t = re.sub(rf"(?<![^\s(){{}}\[\];,@]){re.escape(a)}(?![^\s(){{}}\[\];,.@])", b, t)
+            return t
+
+        if invariants:
+            body = "\n\n".join(["\n".join(x) for _, x in shared] + ["\n".join(x) for x in invariants])
+            top = comments + imports + [f"use {path}.Given as goal", ""]
+            open(os.path.join(folder, "Invariants.antt"), "w", encoding="utf-8").write("\n".join(top) + "\n" + body + "\n")
+        if answers:
+            body = named("\n\n".join("\n".join(x) for x in answers))
+            top = (comments if not invariants else []) + imports
+            used = [n for n, _ in shared if re.search(rf"(?<![^\s(){{}}\[\];,.@]){re.escape(n)}(?![^\s(){{}}\[\];,.@])", body)]
+            used += [b for b in inv_names.values() if re.search(rf"(?<![^\s(){{}}\[\];,.@]){re.escape(b)}(?![^\s(){{}}\[\];,.@])", body)]
+            if used:
+                top.append(f"use {path}.Invariants.{{{', '.join(used)}}}")
+            top += [f"use {path}.Goals as goal", ""]
+            open(os.path.join(folder, "Answers.antt"), "w", encoding="utf-8").write("\n".join(top) + "\n" + body + "\n")
+        os.remove(os.path.join(folder, "Proof.antt"))
+
+
+if __name__ == "__main__":
+    main(sys.argv[1], sys.argv[2], set(sys.argv[3:]))
