@@ -63,6 +63,7 @@ class Fn:
         self.places = info["places"]
         self.new = dict(zip([p[0] for p in self.places], info["places_by_name"]))
         self.at = {p[0]: p for p in self.places}
+        self.helpers = {}
         self.needs = {}
         for (old, new), asked in zip(info["needs"], info["asked_at"]):
             self.needs.setdefault(norm(old), (new, asked[0]))
@@ -90,9 +91,15 @@ class Fn:
                 pre = self.info.get("pre")
                 if pre and pre.get("fields"):
                     words[1] = pre["fields"][int(words[1])]
-                elif words[1] == "0":
-                    del words[1]
             return ("words", words)
+        index = [x[0] for x in self.places]
+        for q in chain:
+            arm = self.info["arms"][index.index(q)]
+            for field, step, path in (arm[2] if arm else []):
+                if norm(step) == norm(w) and path and words[1 : 1 + len(path)] == path:
+                    return ("words", [arm[0], field] + words[1 + len(path) :])
+        if w.endswith("_lem") and not any(norm(self.at[q][2][0]) == norm(w) for q in chain):
+            w = w[:-4]
         fits = [k for k, q in enumerate(chain) if norm(self.at[q][2][0]) == norm(w)]
         if fits:
             k = min(fits, key=lambda k: abs(k - ups))
@@ -117,7 +124,28 @@ class Fn:
     def turn(self, place, var, body, where):
         alias = {var: place}
 
+        def handed(text):
+            for h, hp in self.helpers.items():
+
+                def one(m):
+                    if m[2] not in alias:
+                        return m[0]
+                    chain = [alias[m[2]]]
+                    while self.at[chain[-1]][1] is not None:
+                        chain.append(self.at[chain[-1]][1])
+                    if hp not in chain:
+                        self.said(f"{where}: {h} is of {hp}, which is not above {chain[0]}")
+                        return m[0]
+                    return m[1] + "\0" + var + ".before" * chain.index(hp) + "\0"
+
+                text = re.sub(rf"((?<![^\s(){{}}\[\];,@]){re.escape(h)}\s+)([A-Za-z_][\w']*)((?:\.before)*)(?![^\s(){{}}\[\];,])", one, text)
+            return text
+
         def sub(text):
+            parts = handed(text).split("\0")
+            return "".join(p if i % 2 else sub1(p) for i, p in enumerate(parts))
+
+        def sub1(text):
             def one(m):
                 v, rest = m[1], m[2]
                 if v not in alias:
@@ -240,8 +268,19 @@ def main(crate, names, only):
                 ps = [p for p in params if p != "κs"]
                 answers.append(pre + [f"pub {new} : goal.{new}"] + mid + [f"{new} {' '.join(ps)} = {body[0]}".rstrip()] + body[1:])
                 continue
-            if "tie.close" in "\n".join(d["lines"]):
+            whole = "\n".join(d["lines"])
+            if "tie.close" in whole:
                 continue
+            m = re.search(r"\((\w+) : tie\.([^\s)]+)[^)]*\)", whole)
+            if m:
+                place = next((p[0] for p in info["places"] if norm(p[0]) == norm(m[2])), None)
+                if place is None:
+                    print(f"left: {where}: no place {m[2]}")
+                else:
+                    whole = whole.replace(m[0], f"({m[1]} : goal.{fn.new[place]})")
+                    lines = whole.split("\n")
+                    fn.helpers[d["name"]] = place
+                    d["lines"] = [l if l.startswith("--") else x for l, x in zip(lines, fn.turn(place, m[1], lines, where))] if len(fn.turn(place, m[1], lines, where)) == len(lines) else fn.turn(place, m[1], lines, where)
             answers.append(d["lines"])
         imports = [l for l in head if l.startswith("use ") and not re.search(r"\.(Statement|Tie)\b", l)]
         comments = []

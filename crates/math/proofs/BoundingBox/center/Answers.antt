@@ -1,0 +1,8 @@
+-- `BoundingBox::center` meets its contract: the calls promise the parts of the definition.
+use Rattle.math.specs.Boxes.{center}
+use borrow.Author.Rules.{rules}
+use Rattle.math.proofs.BoundingBox.center.Goals as goal
+
+pub returns : goal.returns
+unfolding center
+returns c = rw c.mul.ensures (rw c.add.ensures)
