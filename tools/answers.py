@@ -68,6 +68,21 @@ class Fn:
         for (old, new), asked in zip(info["needs"], info["asked_at"]):
             self.needs.setdefault(norm(old), (new, asked[0]))
 
+    def params(self, callee):
+        """The names of the parameters of a function of the repository."""
+        parts = callee.split("::")
+        folder = os.path.join(self.crates, parts[0], "src")
+        if not os.path.isdir(folder):
+            return None
+        files = [os.path.join(d, f) for d, _, fs in os.walk(folder) for f in fs if f.endswith(".rt")]
+        if len(parts) > 2:
+            files.sort(key=lambda f: not f.endswith("/" + parts[1] + ".rt"))
+        for f in files:
+            m = re.search(rf"\bfn {parts[-1]}\(([^)]*)\)", open(f, encoding="utf-8").read())
+            if m:
+                return [x.split(":")[0].strip() for x in m[1].split(",") if x.strip()]
+        return None
+
     def path(self, place, words, where):
         """c at `place` followed by words: the new words."""
         words = list(words)
@@ -98,6 +113,9 @@ class Fn:
             for field, step, path in (arm[2] if arm else []):
                 if norm(step) == norm(w) and path and words[1 : 1 + len(path)] == path:
                     return ("words", [arm[0], field] + words[1 + len(path) :])
+        for v, s in self.info["typed"][index.index(place)]:
+            if norm(s) == norm(w) and words[1:2] == ["given"]:
+                return ("words", ["type_inv", v] + words[2:])
         if w.endswith("_lem") and not any(norm(self.at[q][2][0]) == norm(w) for q in chain):
             w = w[:-4]
         fits = [k for k, q in enumerate(chain) if norm(self.at[q][2][0]) == norm(w)]
@@ -105,6 +123,16 @@ class Fn:
             k = min(fits, key=lambda k: abs(k - ups))
             step = self.at[chain[k]][2]
             words[0] = step[1]
+            # what a call left behind its arguments, by their names
+            callee = self.at[chain[k]][3]
+            if len(words) > 2 and words[1] == "new" and callee:
+                n = 2
+                while n < len(words) and words[n] == "1":
+                    n += 1
+                if n < len(words) and words[n] == "0":
+                    names = self.params(callee)
+                    if names and n - 2 < len(names):
+                        words[2 : n + 1] = [names[n - 2]]
             i = [x[0] for x in self.places].index(chain[k])
             # clauses by number
             if len(words) > 2 and words[1] in ("ensures",) and re.fullmatch(r"\d+", words[2]):
@@ -171,7 +199,8 @@ class Fn:
                     alias[m[2]] = r[1]
                     continue
             out.append(sub(l))
-        return out
+        # a test of what is not so says now what is so
+        return [re.sub(r"\bnot-(?:true|false) (?:_|[\w'.-]+|\([^()]*\)) (c\.if-not-[\w-]+\.(?:true|false))", r"\1", l) for l in out]
 
 
 def main(crate, names, only):
@@ -191,6 +220,7 @@ def main(crate, names, only):
             continue
         info = info_all[key]
         fn = Fn(info, lambda s: print(f"left: {s}"))
+        fn.crates = os.path.join(crate, "..")
         text = open(os.path.join(folder, "Proof.antt"), encoding="utf-8").read()
         head, decls = chunks(text)
         answers, invariants = [], []
@@ -242,6 +272,8 @@ def main(crate, names, only):
                 need = norm(m[1])
                 if need not in fn.needs and "-" in need and need.split("-", 1)[1] in fn.needs:
                     need = need.split("-", 1)[1]
+                if need not in fn.needs and need.startswith("slice-bounds-"):
+                    need = need.replace("slice-bounds-", "part-", 1)
                 if need not in fn.needs and d["lines"][-1].endswith("= search rules"):
                     continue
                 if need not in fn.needs:

@@ -18,14 +18,14 @@ returns-then-not-b c =
     let bytes = c.args.bytes.now in
     let i = c.loop-i.i in
     let digit = leb 48 (get_or bytes i 0) && leb (get_or bytes i 0) 57 in
-    sym (all_digits_next bytes i (omega arith) ∙ rw (not-true digit c.if-not-b.true)) ∙ c.loop-i.invariant.1
+    sym (all_digits_next bytes i (omega arith) ∙ rw (c.if-not-b.true)) ∙ c.loop-i.invariant.1
 
 pub loop-i-preserved : goal.loop-i-preserved
 loop-i-preserved c =
     let bytes = c.args.bytes.now in
     let i = c.loop-i.i in
     let digit = leb 48 (get_or bytes i 0) && leb (get_or bytes i 0) 57 in
-    (omega arith, sym (all_digits_next bytes i (omega arith) ∙ rw (not-false digit c.if-not-b.false)) ∙ c.loop-i.invariant.1)
+    (omega arith, sym (all_digits_next bytes i (omega arith) ∙ rw (c.if-not-b.false)) ∙ c.loop-i.invariant.1)
 
 pub returns : goal.returns
 unfolding all_digits

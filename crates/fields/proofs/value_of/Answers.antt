@@ -11,7 +11,7 @@ use Rattle.fields.specs.FieldLaws.{value_from_next, next_digit}
 use Rattle.fields.proofs.value_of.Goals as goal
 
 pub loop-i-init : goal.loop-i-init
-loop-i-init c = (omega arith, omega arith, refl, c.requires)
+loop-i-init c = (omega arith, omega arith, refl, c.requires.0)
 
 pub overflow_mul-read : goal.overflow_mul-read
 overflow_mul-read c =

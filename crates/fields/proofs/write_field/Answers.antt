@@ -27,7 +27,7 @@ shape_of-field-then-rest-eq0 c =
     let s = c.loop-i in
     let i = s.i - 1 in
     let front : length (take i (set s.field i (48 + s.rest % 10))) ≡ i = simp (length-take, length-set) (omega (arith, s.invariant.0)) in
-    let blanks : length c.fill_blanks.new.0 ≡ i = rw c.fill_blanks.ensures (length-replicate _ _ ∙ front) in
+    let blanks : length c.fill_blanks.new.field ≡ i = rw c.fill_blanks.ensures (length-replicate _ _ ∙ front) in
     simp (length-append, length-drop, length-set) (omega (arith, blanks, s.invariant.0, s.invariant.1))
 
 pub returns-then-rest-eq0 : goal.returns-then-rest-eq0

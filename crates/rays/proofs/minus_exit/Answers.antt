@@ -1,0 +1,8 @@
+-- `minus_exit` meets its contract: the sign of the direction says which plane it is.
+use mathlib.Core.Logic.{⊎_elim}
+use Rattle.rays.specs.Slabs.{minus_exit}
+use Rattle.rays.proofs.minus_exit.Goals as goal
+
+pub returns : goal.returns
+unfolding minus_exit
+returns c = ⊎_elim (λ w. rw (w.1, w.0.taken)) (λ w. rw (w.1, w.0.left)) c.if-inv.branch
