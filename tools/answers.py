@@ -64,6 +64,7 @@ class Fn:
         self.new = dict(zip([p[0] for p in self.places], info["places_by_name"]))
         self.at = {p[0]: p for p in self.places}
         self.helpers = {}
+        self.named = []
         self.needs = {}
         for (old, new), asked in zip(info["needs"], info["asked_at"]):
             self.needs.setdefault(norm(old), (new, asked[0]))
@@ -96,7 +97,7 @@ class Fn:
         if not words:
             if ups >= len(chain):
                 self.said(f"{where}: before the start")
-                return None
+                ups = len(chain) - 1
             return ("place", chain[ups])
         w = words[0]
         if w in ("args", "requires", "well-formed", "well_formed", "lifetimes", "ranges"):
@@ -309,7 +310,8 @@ def main(crate, names, only):
                 if place is None:
                     print(f"left: {where}: no place {m[2]}")
                 else:
-                    whole = whole.replace(m[0], f"({m[1]} : goal.{fn.new[place]})")
+                    whole = whole.replace(m[0], f"({m[1]} : {fn.new[place]})")
+                    fn.named.append(fn.new[place])
                     lines = whole.split("\n")
                     fn.helpers[d["name"]] = place
                     d["lines"] = [l if l.startswith("--") else x for l, x in zip(lines, fn.turn(place, m[1], lines, where))] if len(fn.turn(place, m[1], lines, where)) == len(lines) else fn.turn(place, m[1], lines, where)
@@ -358,7 +360,10 @@ def main(crate, names, only):
             used += [b for b in inv_names.values() if re.search(rf"(?<![^\s(){{}}\[\];,.@]){re.escape(b)}(?![^\s(){{}}\[\];,.@])", body)]
             if used:
                 top.append(f"use {path}.Invariants.{{{', '.join(used)}}}")
-            top += [f"use {path}.Goals as goal", ""]
+            top += [f"use {path}.Goals as goal"]
+            if fn.named:
+                top.append(f"use {path}.Goals.{{{', '.join(dict.fromkeys(fn.named))}}}")
+            top.append("")
             open(os.path.join(folder, "Answers.antt"), "w", encoding="utf-8").write("\n".join(top) + "\n" + body + "\n")
         os.remove(os.path.join(folder, "Proof.antt"))
 

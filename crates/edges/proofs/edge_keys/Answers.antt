@@ -16,8 +16,7 @@ use Rattle.mesh_questions.specs.Questions.{ends_fit}
 use Rattle.edges.specs.Edges.{edge_keys}
 use Rattle.edges.specs.Below.{Below}
 use Rattle.edges.specs.EdgeLaws.{length_edge_keys, flatten_faces, edge_keys_small}
-use Rattle.edges.proofs.edge_keys.Statement.{statement}
-use Rattle.edges.proofs.edge_keys.Tie as tie
+use Rattle.edges.proofs.edge_keys.Goals as goal
 
 module _ (corners ends work₀ work : List ℕ) (fit : ends_fit 0 (length corners) ends ≡ true) (filled : work ≡ over (edge_keys (faces corners ends)) work₀) where
   abbrev keys : List ℕ
@@ -35,29 +34,13 @@ module _ (corners ends work₀ work : List ℕ) (fit : ends_fit 0 (length corner
   front_sorted : (part : List ℕ) → part ≡ sorted (take (length corners) work) → part ++ drop (length corners) work ≡ over (sorted keys) work₀
   front_sorted part e = rw (e, front, filled, drop_over keys work₀ _ size) (unfold over in rw (length_sorted keys, size))
 
-fill_keys_requires : tie.Need-fill-keys-requires
-fill_keys_requires c κs = search rules
+pub slice_bounds-sort-end-2 : goal.slice_bounds-sort-end-2
+slice_bounds-sort-end-2 c = sym (length-take-le _ c.fill_keys.new.work (omega arith))
 
-slice_relend_prefix_sort : tie.Need-slice-relend-prefix-sort
-slice_relend_prefix_sort c = search rules
+pub sort-requires : goal.sort-requires
+sort-requires c =
+    front_small c.args.corners.now c.args.ends.now _ _ c.requires.ends_value c.fill_keys.ensures c.requires.below.0
 
-slice_aggregate_sort : tie.Need-slice-aggregate-sort
-slice_aggregate_sort c = sym (length-take-le _ c.before.before.before.fill-keys.new.1.1.0 (omega arith))
-
-sort_requires : tie.Need-sort-requires
-sort_requires c κs =
-    let start = c.before.before.before.before.before.before.before.before in
-    front_small start.args.corners.now start.args.ends.now _ _ start.requires.0 c.before.before.before.fill-keys.ensures start.requires.1.0
-
-same_length : tie.Need-same-length
-same_length c = search rules
-
-returns : tie.Need-returns
+pub returns : goal.returns
 returns c =
-    let start = c.before.before.before.before.before.before.before.before.before.before.before in
-    front_sorted start.args.corners.now start.args.ends.now _ _ start.requires.0 c.before.before.before.before.before.before.fill-keys.ensures _ c.before.before.sort.ensures
-
-pub edge_keys_spec : {M : Type 1} → statement M
-edge_keys_spec =
-    tie.close
-    (tie.spec fill_keys_requires slice_relend_prefix_sort slice_aggregate_sort sort_requires same_length returns)
+    front_sorted c.args.corners.now c.args.ends.now _ _ c.requires.ends_value c.fill_keys.ensures _ c.sort.ensures

@@ -1,0 +1,29 @@
+-- `write_listing` meets its contract: the rows stand behind the header.
+use Prim.Native.Nat.{◌+◌, ◌-◌, ◌*◌}
+use native.Mathlib.Omega.{arith}
+use mathlib.Core.Path.{◌≡◌}
+use lib.ListN.{length}
+use Rattle.lent.specs.Over.{length_over, over_on}
+use Rattle.listing.specs.Listing.{header, rows, listing_text, listing_length}
+use Rattle.listing.specs.ListingLaws.{length_line, length_rows}
+use borrow.Author.Rules.{rules}
+use Rattle.listing.proofs.write_listing.Goals as goal
+
+pub write_header-requires : goal.write_header-requires
+unfolding listing_length
+write_header-requires c = omega (arith, c.requires.1)
+
+pub slice_bounds-write_rows-end : goal.slice_bounds-write_rows-end
+unfolding listing_length header
+slice_bounds-write_rows-end c =
+    let listing = c.args.listing.now in
+    let kept = length_over (header 0 0) listing (omega (arith, length_line 3 0 0 (omega arith), c.requires.1)) in
+    rw c.write_header.ensures (omega (arith, kept, c.requires.1))
+
+pub returns : goal.returns
+unfolding listing_text header
+returns c =
+    let answers = c.args.answers.now in
+    let width : 10 + 10 * length answers - 10 ≡ 10 * length answers = omega arith in
+    let joined = over_on (header 0 0) (rows 0 answers) c.args.listing.now 10 (10 * length answers) (length_line 3 0 0 (omega arith)) (length_rows 0 answers) in
+    rw (c.write_rows.ensures, width, c.write_header.ensures) joined

@@ -1,0 +1,18 @@
+-- `write_rows` meets its contract: after i rounds the first i rows stand in front.
+use Prim.Native.Nat.{◌+◌, ◌-◌, ◌*◌, ◌≤◌}
+use native.Mathlib.Omega.{arith}
+use mathlib.Core.Path.{◌≡◌, refl, sym}
+use lib.ListN.{length, take, length-take, length-drop}
+use lib.Seq.{take_all, length-take-le}
+use borrow.Author.Rules.{rules}
+use Rattle.lent.specs.Over.{over, over_nothing, length_over}
+use Rattle.listing.specs.Listing as Listing
+use Rattle.listing.specs.ListingLaws.{length_rows, rows_written}
+use Rattle.listing.proofs.write_rows.Given as goal
+
+abbrev pub invariant-loop-i : goal.invariant-loop-i
+invariant-loop-i l =
+    (l.i ≤ length l.answers) × (length l.rows ≡ length l.initial.rows) × (l.rows ≡ over (Listing.rows 0 (take l.i l.answers)) l.initial.rows)
+
+abbrev pub decreases-loop-i : goal.decreases-loop-i
+decreases-loop-i l = length l.answers - l.i
