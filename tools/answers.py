@@ -106,7 +106,15 @@ class Fn:
             if w == "requires" and len(words) > 1 and re.fullmatch(r"\d+", words[1]):
                 pre = self.info.get("pre")
                 if pre and pre.get("fields"):
-                    words[1] = pre["fields"][int(words[1])]
+                    fields = pre["fields"]
+                    k = 0
+                    n = 1
+                    while k < len(fields) - 1 and n < len(words) and words[n] == "1":
+                        k += 1
+                        n += 1
+                    if k < len(fields) - 1 and n < len(words) and words[n] == "0":
+                        n += 1
+                    words[1:n] = [fields[k]]
             return ("words", words)
         index = [x[0] for x in self.places]
         for q in chain:
@@ -150,7 +158,7 @@ class Fn:
         # the step of a place further down, or a field that stays
         return ("words", words)
 
-    def turn(self, place, var, body, where):
+    def turn(self, place, var, body, where, goal=None):
         alias = {var: place}
 
         def handed(text):
@@ -165,7 +173,11 @@ class Fn:
                     if hp not in chain:
                         self.said(f"{where}: {h} is of {hp}, which is not above {chain[0]}")
                         return m[0]
-                    return m[1] + "\0" + var + ".before" * chain.index(hp) + "\0"
+                    if goal:
+                        return m[1] + "\0" + f"(goal.at.{goal} {var}).{self.new[hp]}" + "\0"
+                    if chain.index(hp):
+                        self.said(f"{where}: {h} is of {hp}, and this of {chain[0]}")
+                    return m[1] + "\0" + var + "\0"
 
                 text = re.sub(rf"((?<![^\s(){{}}\[\];,@]){re.escape(h)}\s+)([A-Za-z_][\w']*)((?:\.before)*)(?![^\s(){{}}\[\];,])", one, text)
             return text
@@ -296,7 +308,7 @@ def main(crate, names, only):
                 whole = " ".join(b.strip() for b in body).strip()
                 if whole == "search rules" and not mid:
                     continue
-                body = fn.turn(place, c, body, where)
+                body = fn.turn(place, c, body, where, new)
                 pre = d["lines"][: d["sig_at"]]
                 ps = [p for p in params if p != "κs"]
                 answers.append(pre + [f"pub {new} : goal.{new}"] + mid + [f"{new} {' '.join(ps)} = {body[0]}".rstrip()] + body[1:])

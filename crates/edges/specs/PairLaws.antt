@@ -1,7 +1,7 @@
 -- Keys in ascending order stand in pairs exactly when each of them stands twice, so they tell whether the mesh is closed (`closed_keys_closed`).
 -- All copies of a key stand together, and without the first pair the other keys stand as often as before (`twice_in_behind`).
 use Rattle.std.specs.Prelude.{ℕ, suc, ◌+◌, ◌≤◌, ◌<◌, Bool, true, false, ◌&&◌, ◌≡◌, refl, ◌⊎◌, List, [], ◌∷◌, eqb, length, take}
-use Rattle.std.proofs.Common.{arith, ◌∙◌, inl, inr, ⊎_elim, lt-ltb, eq-eqb, ne_eqb, eqb-true}
+use Rattle.std.proofs.Common.{arith, ◌∙◌, inl, inr, ⊎_elim, sym, subst, lt-ltb, eq-eqb, ne_eqb, eqb-true}
 use Rattle.keys.specs.Sorting.{insert_by, sorted_by, sorted, count, Permutation, All, AscendingBy, Ascending}
 use Rattle.keys.specs.SortingTheorems.{le_or_lt, eq_or_ne, insert_here, insert_past, all_map, count_cons, length_sorted, sorted_ascending, sorted_permutation}
 use Rattle.lent.specs.Over.{over, take_over}
@@ -92,7 +92,7 @@ in_pairs_twice [] asc = refl
 in_pairs_twice (k ∷ []) asc = rw (ne_eqb (count k (k ∷ [])) 2 (λ e. omega (arith, count_cons k k [], count_behind k [] tt)))
 in_pairs_twice (k ∷ x ∷ l) asc =
     ⊎_elim
-    (λ w. rw (eqb-true x k w.0) (pair k l asc.0.1 asc.1.1 (in_pairs_twice l asc.1.1)))
+    (λ w. subst (λ y. in_pairs (k ∷ y ∷ l) ≡ twice_in (k ∷ y ∷ l) (k ∷ y ∷ l)) (sym (eqb-true x k w.0)) (pair k l asc.0.1 asc.1.1 (in_pairs_twice l asc.1.1)))
     (λ w. rw (w.0, ne_eqb (count k (k ∷ x ∷ l)) 2 (λ e. omega (arith, count_cons k k (x ∷ l), count_behind k (x ∷ l) w.1))))
     (begins k (x ∷ l) asc.0 asc.1)
 

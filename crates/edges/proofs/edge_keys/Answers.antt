@@ -39,7 +39,7 @@ slice_bounds-sort-end-2 c = sym (length-take-le _ c.fill_keys.new.work (omega ar
 
 pub sort-requires : goal.sort-requires
 sort-requires c =
-    front_small c.args.corners.now c.args.ends.now _ _ c.requires.ends_value c.fill_keys.ensures c.requires.below.0
+    front_small c.args.corners.now c.args.ends.now _ _ c.requires.ends_value c.fill_keys.ensures c.requires.below
 
 pub returns : goal.returns
 returns c =

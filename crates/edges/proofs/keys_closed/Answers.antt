@@ -11,6 +11,5 @@ slice_bounds-is_closed-end-2 c = sym (length-take-le _ c.edge_keys.new.work (ome
 
 pub returns : goal.returns
 returns c =
-    let start = c.before.before.before.before.before.before.before.before.before in
     let written = c.edge_keys.ensures in
-    (closed_of start.args.corners.now start.args.ends.now start.requires.0 _ _ _ written c.is_closed.ensures, written)
+    (closed_of c.args.corners.now c.args.ends.now c.requires.0 _ _ _ written c.is_closed.ensures, written)
