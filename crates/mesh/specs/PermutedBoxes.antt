@@ -103,7 +103,7 @@ include_exchange b p q h k l =
 include_all_alike : {a b : BoundingBox} (ps : List Vec3) → AlikeBox a b → AlikeBox (include_all a ps) (include_all b ps)
 unfolding include_all
 include_all_alike [] h = h
-include_all_alike (p ∷ rest) h = include_all_alike rest (include_alike p h)
+include_all_alike {a = a} {b = b} (p ∷ rest) h = include_all_alike {a = include a p} {b = include b p} rest (include_alike p h)
 
 -- the box of points in another order is alike
 pub include_all_reordered : {l m : List Vec3} → Reordered l m → (b : BoundingBox) → F64Box b → AllF64 l → AlikeBox (include_all b l) (include_all b m)

@@ -1,0 +1,25 @@
+-- `inside_cylindrical_box` meets its contract: its tests are those of the definition, in its order.
+use mathlib.Core.Path.{sym, ◌∙◌}
+use borrow.Author.Tests.{not-true, not-false}
+use Rattle.basic.specs.Boxes.{inside_cylindrical_box}
+use borrow.Author.Rules.{rules}
+use Rattle.basic.proofs.inside_cylindrical_box.Goals as goal
+
+pub returns-then-not-in_range : goal.returns-then-not-in_range
+unfolding inside_cylindrical_box
+returns-then-not-in_range c = rw (sym c.in_range.ensures ∙ c.if-not-in_range.true)
+
+pub returns-then-not-in_range-2 : goal.returns-then-not-in_range-2
+unfolding inside_cylindrical_box
+returns-then-not-in_range-2 c =
+    rw (sym c.in_range.ensures ∙ c.if-not-in_range.false, sym c.in_range-2.ensures ∙ c.if-not-in_range-2.true)
+
+pub returns-then-p-tol : goal.returns-then-p-tol
+unfolding inside_cylindrical_box
+returns-then-p-tol c =
+    rw (sym c.in_range.ensures ∙ c.if-not-in_range.false, sym c.in_range-2.ensures ∙ c.if-not-in_range-2.false, rw c.tol.ensures at c.if-p-tol.true)
+
+pub returns : goal.returns
+unfolding inside_cylindrical_box
+returns c =
+    rw (sym c.in_range.ensures ∙ c.if-not-in_range.false, sym c.in_range-2.ensures ∙ c.if-not-in_range-2.false, rw c.tol.ensures at c.if-p-tol.false) c.angle_ok.ensures

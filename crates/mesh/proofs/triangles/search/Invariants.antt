@@ -1,0 +1,17 @@
+-- `search` meets its contract. The invariant: triangle t does not come before face lo, and it comes before face hi. The measure is the
+-- distance of the two.
+use Prim.Native.Nat.{◌+◌, ◌*◌, ◌/◌, ◌≤◌, ◌<◌, ◌-◌}
+use native.Mathlib.Omega.{arith}
+use mathlib.Core.Path.{◌≡◌}
+use lib.ListN.{length}
+use borrow.Author.Rules.{rules}
+use Rattle.mesh.specs.Triangles.{start_from}
+use Rattle.mesh.specs.TriangleLaws.{start_from_before, start_from_next, some_face}
+use Rattle.mesh.proofs.triangles.search.Given as goal
+
+abbrev pub invariant-loop-lo : goal.invariant-loop-lo
+invariant-loop-lo l =
+    (l.lo < l.hi) × (l.hi ≤ length l.ends) × (start_from 0 l.ends l.lo ≤ l.t + 2 * l.lo) × (l.t + 2 * l.hi < start_from 0 l.ends l.hi)
+
+abbrev pub decreases-loop-lo : goal.decreases-loop-lo
+decreases-loop-lo l = l.hi - l.lo

@@ -1,0 +1,15 @@
+-- `plane_axes` meets its contract: a remainder by 3 may be taken before the sum too.
+use Prim.Native.Nat.{◌+◌, ◌%◌}
+use native.Mathlib.Omega.{arith}
+use mathlib.Core.Path.{◌≡◌}
+use Rattle.poly.specs.Planes.{plane_axes}
+use borrow.Author.Rules.{rules}
+use Rattle.poly.proofs.plane_axes.Goals as goal
+
+pub returns : goal.returns
+unfolding plane_axes
+returns c =
+    let n = c.args.n in
+    let u : (n % 3 + 1) % 3 ≡ (n + 1) % 3 = omega arith in
+    let v : (n % 3 + 2) % 3 ≡ (n + 2) % 3 = omega arith in
+    rw (u, v)
