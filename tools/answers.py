@@ -84,6 +84,78 @@ class Fn:
                 return [x.split(":")[0].strip() for x in m[1].split(",") if x.strip()]
         return None
 
+    def left_behind(self, callee, words):
+        """What a call left behind its arguments, by their names: .new.1.0 as .new.q."""
+        if callee and len(words) > 1 and words[0] in ("new", "auto"):
+            n = 1
+            while n < len(words) and words[n] == "1":
+                n += 1
+            names = self.params(callee)
+            if names and n < len(words) and words[n] == "0" and n - 1 < len(names):
+                return [words[0], names[n - 1]] + words[n + 1 :]
+        return words
+
+    def labels(self, goal, here):
+        """The names of the requires of the function whose call a goal is of, if it has several."""
+        best = None
+        for d, _, fs in os.walk(self.crates):
+            if "/src" not in d or "/out" in d:
+                continue
+            for f in fs:
+                if not f.endswith(".rt"):
+                    continue
+                text = open(os.path.join(d, f), encoding="utf-8").read()
+                for m in re.finditer(r"\bfn (\w+)\b[^{;]*?\)(?: -> [^\n{]+)?\n((?:    (?:requires|ensures)[^\n]*\n)*)", text):
+                    if goal == m[1] + "-requires" or goal.startswith(m[1] + "-"):
+                        rank = (len(m[1]), here in d)
+                        if best is None or rank > best[0]:
+                            best = (rank, re.findall(r"requires (\w+) \{", m[2]))
+        return best[1] if best and len(best[1]) > 1 else None
+
+    def record(self, goal, body, here):
+        """A tuple at the end of an answer to a goal of several clauses, as a record."""
+        names = self.labels(goal, here)
+        if not names:
+            return body
+        text = "\n".join(body).rstrip()
+        if not text.endswith(")"):
+            return body
+
+        def group(s):
+            depth = 0
+            for i in range(len(s) - 1, -1, -1):
+                depth += s[i] in ")]}"
+                depth -= s[i] in "([{"
+                if depth == 0:
+                    return i
+            return None
+
+        i = group(text)
+        if i is None or not (i == 0 or re.search(r"(^|\bin|\n)\s*$", text[:i])):
+            return body
+
+        def split(s):
+            parts, depth, cur = [], 0, ""
+            for ch in s:
+                depth += ch in "([{"
+                depth -= ch in ")]}"
+                if ch == "," and depth == 0:
+                    parts.append(cur)
+                    cur = ""
+                else:
+                    cur += ch
+            if cur.strip():
+                parts.append(cur)
+            return [x.strip() for x in parts]
+
+        parts = split(text[i + 1 : -1])
+        while 1 < len(parts) < len(names) and parts[-1].startswith("(") and group(parts[-1]) == 0:
+            parts = parts[:-1] + split(parts[-1][1:-1])
+        if len(parts) != len(names):
+            return body
+        keep = [f"{n} = {x}" for n, x in zip(names, parts)]
+        return (text[:i] + "record { " + "; ".join(keep) + " }").split("\n")
+
     def path(self, place, words, where):
         """c at `place` followed by words: the new words."""
         words = list(words)
@@ -132,16 +204,7 @@ class Fn:
             k = min(fits, key=lambda k: abs(k - ups))
             step = self.at[chain[k]][2]
             words[0] = step[1]
-            # what a call left behind its arguments, by their names
-            callee = self.at[chain[k]][3]
-            if len(words) > 2 and words[1] == "new" and callee:
-                n = 2
-                while n < len(words) and words[n] == "1":
-                    n += 1
-                if n < len(words) and words[n] == "0":
-                    names = self.params(callee)
-                    if names and n - 2 < len(names):
-                        words[2 : n + 1] = [names[n - 2]]
+            words = words[:1] + self.left_behind(self.at[chain[k]][3], words[1:])
             i = [x[0] for x in self.places].index(chain[k])
             # clauses by number
             if len(words) > 2 and words[1] in ("ensures",) and re.fullmatch(r"\d+", words[2]):
@@ -160,6 +223,7 @@ class Fn:
 
     def turn(self, place, var, body, where, goal=None):
         alias = {var: place}
+        steps = {}
 
         def handed(text):
             for h, hp in self.helpers.items():
@@ -189,6 +253,8 @@ class Fn:
         def sub1(text):
             def one(m):
                 v, rest = m[1], m[2]
+                if v in steps:
+                    return ".".join([v] + self.left_behind(steps[v], rest.split(".")[1:]))
                 if v not in alias:
                     return m[0]
                 words = rest.split(".")[1:] if rest else []
@@ -211,6 +277,14 @@ class Fn:
                 if r and r[0] == "place":
                     alias[m[2]] = r[1]
                     continue
+            m = re.match(rf"^(\s*)let ([\w']+) = ([\w']+)((?:\.before)*)\.({NAME}) in$", l)
+            if m and m[3] in alias:
+                chain = [alias[m[3]]]
+                while self.at[chain[-1]][1] is not None:
+                    chain.append(self.at[chain[-1]][1])
+                at = next((q for q in chain if norm(self.at[q][2][0]) == norm(m[5])), None)
+                if at and self.at[at][3]:
+                    steps[m[2]] = self.at[at][3]
             out.append(sub(l))
         # a test of what is not so says now what is so
         return [re.sub(r"\bnot-(?:true|false) (?:_|[\w'.-]+|\([^()]*\)) (c\.if-not-[\w-]+\.(?:true|false))", r"\1", l) for l in out]
@@ -309,6 +383,7 @@ def main(crate, names, only):
                 if whole == "search rules" and not mid:
                     continue
                 body = fn.turn(place, c, body, where, new)
+                body = fn.record(new, body, f"/{crate_name}/") if "-requires" in new else body
                 pre = d["lines"][: d["sig_at"]]
                 ps = [p for p in params if p != "κs"]
                 answers.append(pre + [f"pub {new} : goal.{new}"] + mid + [f"{new} {' '.join(ps)} = {body[0]}".rstrip()] + body[1:])
