@@ -290,6 +290,57 @@ class Fn:
         return [re.sub(r"\bnot-(?:true|false) (?:_|[\w'.-]+|\([^()]*\)) (c\.if-not-[\w-]+\.(?:true|false))", r"\1", l) for l in out]
 
 
+def cycle(crate, crate_name, folder, rel, info_all):
+    """The proof of a function that calls itself, each of whose goals names what it may call over many lines."""
+    f = rel[1:]
+    info = info_all[f"Rattle-{crate_name}-proofs.{rel}.Lts-{f}"]
+    fn = Fn(info, lambda s: print(f"left: {s}"))
+    fn.crates = os.path.join(crate, "..")
+    text = open(os.path.join(folder, "Proof.antt"), encoding="utf-8").read()
+    head, decls = chunks(text)
+    answers = []
+    for d in decls:
+        whole = "\n".join(d["lines"])
+        if " close " in whole and "_spec" in d["name"]:
+            continue
+        m = re.search(rf"{f}_lts\.Need-([^\s(]+)", whole)
+        if not m:
+            if f"{f}_at" in whole or f"{f}_below" in whole or d["name"].startswith("μ"):
+                continue
+            answers.append(d["lines"])
+            continue
+        where = f"{crate_name}/{rel}: {d['name']}"
+        need = norm(m[1])
+        if need not in fn.needs and "-" in need and need.split("-", 1)[1] in fn.needs:
+            need = need.split("-", 1)[1]
+        if need not in fn.needs and need.startswith("slice-bounds-"):
+            need = need.replace("slice-bounds-", "part-", 1)
+        eq = next(i for i, l in enumerate(d["lines"]) if l.startswith(d["name"] + " ") and i > d["sig_at"])
+        mm = re.match(rf"^{re.escape(d['name'])} (.*?) =( .*)?$", d["lines"][eq])
+        body = [(mm[2] or "").strip()] + d["lines"][eq + 1 :]
+        mid = [l for l in d["lines"][d["sig_at"] : eq] if l.startswith("unfolding ")]
+        if " ".join(b.strip() for b in body) == "search rules" and not mid:
+            continue
+        if need not in fn.needs:
+            print(f"left: {where}: no goal {m[1]}; there are {[x[0] for x in info['needs']]}")
+            answers.append(d["lines"])
+            continue
+        new, place = fn.needs[need]
+        params = [x for x in mm[1].split() if x != "κs"]
+        body = [re.sub(r"\b(\w+)\.requires\.1\b", r"\1.requires", l) for l in fn.turn(place, "c", body, where, new)]
+        body = fn.record(new, body, f"/{crate_name}/") if "-requires" in new else body
+        answers.append(d["lines"][: d["sig_at"]] + [f"pub {new} : goal.{new}"] + mid + [f"{new} {' '.join(params)} = {body[0]}".rstrip()] + body[1:])
+    imports = [l for l in head if l.startswith("use ") and not re.search(r"\.(Statement|Tie|Reads|Kinds|Lts\S*|\{statement\})|borrow\.Fn|PlainCycle", l)]
+    comments = []
+    for l in head:
+        if not l.startswith("--"):
+            break
+        comments.append(l)
+    top = comments + imports + [f"use Rattle.{crate_name}.proofs.{rel}.Goals as goal", ""]
+    open(os.path.join(folder, "Answers.antt"), "w", encoding="utf-8").write("\n".join(top) + "\n" + "\n\n".join("\n".join(x) for x in answers) + "\n")
+    os.remove(os.path.join(folder, "Proof.antt"))
+
+
 def main(crate, names, only):
     info_all = json.load(open(names))
     crate_name = os.path.basename(os.path.abspath(crate))
@@ -298,6 +349,9 @@ def main(crate, names, only):
             continue
         rel = os.path.relpath(folder, os.path.join(crate, "proofs"))
         if only and rel not in only:
+            continue
+        if rel.startswith("+"):
+            cycle(crate, crate_name, folder, rel, info_all)
             continue
         mod = rel.replace("/", ".")
         key = f"Rattle-{crate_name}-proofs.{mod}.Lts"

@@ -19,8 +19,7 @@ use Rattle.mesh.specs.Mesh.{Mesh, mesh, triangle_count}
 use Rattle.tree.specs.Tree.{Tree, tree, node_count, item_at}
 use Rattle.tree.specs.TreeTest.{Lent, root_test, tree_test, triangle_count_accepted}
 use Rattle.tree.specs.TreeTheorem.{once_sound}
-use Rattle.tree_check.proofs.keeps_rules.Statement.{statement}
-use Rattle.tree_check.proofs.keeps_rules.Tie as tie
+use Rattle.tree_check.proofs.keeps_rules.Goals as goal
 
 -- lists that agree from place n on agree from any later place on
 agree_later : (n k : ℕ) (l m : List ℕ) → n ≤ k → drop n l ≡ drop n m → drop k l ≡ drop k m
@@ -62,77 +61,47 @@ module _ (m : Mesh) (t : Tree) (accepted : Accepted m.coords m.corners m.ends) w
   rest : (work₀ work : List ℕ) (result : Bool) → CountsOnce t.items (length m.corners - 2 * length m.ends) work₀ result work → drop (length m.corners) work ≡ drop (length m.corners) work₀
   rest work₀ work result counted = agree_later (length m.corners - 2 * length m.ends) (length m.corners) work work₀ (omega arith) counted.rest
 
-lengths_fit_requires : tie.Need-lengths-fit-requires
-lengths_fit_requires c κs = search rules
-
-returns : tie.Need-returns
+pub returns-then-not-lengths_fit : goal.returns-then-not-lengths_fit
 unfolding node_count
-returns c =
-    let a = c.before.before.before.before.before.before.before.before.before.args in
+returns-then-not-lengths_fit c =
+    let a = c.args in
     let m = mesh a.coords.now a.corners.now a.ends.now in
     let t = tree a.boxes.now a.nodes.now a.items.now in
-    let accepted = c.before.before.before.before.before.before.before.before.before.requires.0 in
-    let no : fit m t accepted ≡ false = sym c.before.lengths-fit.ensures ∙ not-true _ c.if1.true in
+    let accepted = c.requires.0 in
+    let no : fit m t accepted ≡ false = sym c.lengths_fit.ensures ∙ c.if-not-lengths_fit.true in
     record { answer = rw (tested m t accepted, no); rest = refl }
 
-mul_items_once : tie.Need-overflow-mul-items-once
-mul_items_once c = search rules
+pub overflow_sub-corners : goal.overflow_sub-corners
+overflow_sub-corners c =
+    let a = c.args in
+    omega (arith, triangle_count_accepted (mesh a.coords.now a.corners.now a.ends.now) c.requires.0)
 
-sub_items_once : tie.Need-overflow-sub-items-once
-sub_items_once c =
-    let a = c.before.before.before.before.before.before.before.before.before.args in
-    omega (arith, triangle_count_accepted (mesh a.coords.now a.corners.now a.ends.now) c.before.before.before.before.before.before.before.before.before.requires.0)
-
-items_once_requires : tie.Need-items-once-requires
-items_once_requires c κs = search rules
-
-same_length : tie.Need-same-length
-same_length c = search rules
-
-returns_2 : tie.Need-returns-2
+pub returns-then-not-items_once : goal.returns-then-not-items_once
 unfolding node_count
-returns_2 c =
-    let a = c.before.before.before.before.before.before.before.before.before.before.before.before.before.before.args in
+returns-then-not-items_once c =
+    let a = c.args in
     let m = mesh a.coords.now a.corners.now a.ends.now in
     let t = tree a.boxes.now a.nodes.now a.items.now in
-    let accepted = c.before.before.before.before.before.before.before.before.before.before.before.before.before.before.requires.0 in
-    let yes : fit m t accepted ≡ true = sym c.before.before.before.before.before.before.lengths-fit.ensures ∙ not-false _ c.before.before.before.before.before.if1.false in
-    let no : once m t accepted ≡ false = sym c.before.before.before.items-once.ensures.answer ∙ not-true _ c.if2.true in
-    record { answer = rw (tested m t accepted, yes, no); rest = rest m t accepted _ _ _ c.before.before.before.items-once.ensures }
+    let accepted = c.requires.0 in
+    let yes : fit m t accepted ≡ true = sym c.lengths_fit.ensures ∙ c.if-not-lengths_fit.false in
+    let no : once m t accepted ≡ false = sym c.items_once.ensures.answer ∙ c.if-not-items_once.true in
+    record { answer = rw (tested m t accepted, yes, no); rest = rest m t accepted _ _ _ c.items_once.ensures }
 
-root_fits_requires : tie.Need-root-fits-requires
+pub root_fits-requires : goal.root_fits-requires
 unfolding node_count
-root_fits_requires c κs =
-    let a = c.before.before.before.before.before.before.before.before.before.before.before.before.before.before.args in
+root_fits-requires c =
+    let a = c.args in
     let m = mesh a.coords.now a.corners.now a.ends.now in
     let t = tree a.boxes.now a.nodes.now a.items.now in
-    lent m t c.before.before.before.before.before.before.before.before.before.before.before.before.before.before.requires.0 (sym c.before.before.before.before.before.before.lengths-fit.ensures ∙ not-false _ c.before.before.before.before.before.if1.false) (sym c.before.before.before.items-once.ensures.answer ∙ not-false _ c.if2.false)
+    lent m t c.requires.0 (sym c.lengths_fit.ensures ∙ c.if-not-lengths_fit.false) (sym c.items_once.ensures.answer ∙ c.if-not-items_once.false)
 
-same_length_2 : tie.Need-same-length-2
-same_length_2 c = search rules
-
-returns_3 : tie.Need-returns-3
+pub returns : goal.returns
 unfolding node_count
-returns_3 c =
-    let a = c.before.before.before.before.before.before.before.before.before.before.before.before.before.before.before.args in
+returns c =
+    let a = c.args in
     let m = mesh a.coords.now a.corners.now a.ends.now in
     let t = tree a.boxes.now a.nodes.now a.items.now in
-    let accepted = c.before.before.before.before.before.before.before.before.before.before.before.before.before.before.before.requires.0 in
-    let yes : fit m t accepted ≡ true = sym c.before.before.before.before.before.before.before.lengths-fit.ensures ∙ not-false _ c.before.before.before.before.before.before.if1.false in
-    let too : once m t accepted ≡ true = sym c.before.before.before.before.items-once.ensures.answer ∙ not-false _ c.before.if2.false in
-    record { answer = rw (tested m t accepted, yes, too) c.root-fits.ensures; rest = rest m t accepted _ _ _ c.before.before.before.before.items-once.ensures }
-
-pub keeps_rules_spec : {M : Type 1} → statement M
-keeps_rules_spec =
-    tie.close
-    (tie.spec
-    lengths_fit_requires
-    returns
-    mul_items_once
-    sub_items_once
-    items_once_requires
-    same_length
-    returns_2
-    root_fits_requires
-    same_length_2
-    returns_3)
+    let accepted = c.requires.0 in
+    let yes : fit m t accepted ≡ true = sym c.lengths_fit.ensures ∙ c.if-not-lengths_fit.false in
+    let too : once m t accepted ≡ true = sym c.items_once.ensures.answer ∙ c.if-not-items_once.false in
+    record { answer = rw (tested m t accepted, yes, too) c.root_fits.ensures; rest = rest m t accepted _ _ _ c.items_once.ensures }

@@ -12,8 +12,7 @@ use Rattle.refusal.specs.Verdicts.{ask}
 use Rattle.mesh.specs.Mesh.{Mesh}
 use Rattle.tree.specs.Tree.{Tree}
 use Rattle.tree_check.specs.Check.{ask_tree, Keeps, AsksTree}
-use Rattle.tree_check.proofs.ask_tree.Statement.{statement}
-use Rattle.tree_check.proofs.ask_tree.Tie as tie
+use Rattle.tree_check.proofs.ask_tree.Goals as goal
 
 answered : (m : Mesh) (t : Tree) (work₀ counted work : List ℕ) (result kept : Bool) → result ≡ kept → Keeps m t work₀ result counted → work ≡ over (replicate (length m.corners) 0) counted
     → AsksTree m t work₀ (ask kept Refusals.Tree) work
@@ -25,25 +24,8 @@ answered m t work₀ counted work result kept same keeps cleared =
       work = cleared ∙ rw (long, keeps.rest);
     }
 
-keeps_rules_requires : tie.Need-keeps-rules-requires
-keeps_rules_requires c κs = search rules
+pub returns-then-kept : goal.returns-then-kept
+returns-then-kept c = answered _ _ _ _ _ _ true c.if-kept.true c.keeps_rules-kept.ensures c.clear.ensures
 
-clear_requires : tie.Need-clear-requires
-clear_requires c κs = search rules
-
-same_length : tie.Need-same-length
-same_length c = search rules
-
-returns : tie.Need-returns
-returns c = answered _ _ _ _ _ _ true c.if1.true c.before.before.before.before.before.before.before.keeps-rules.ensures c.before.before.before.clear.ensures
-
-same_length_2 : tie.Need-same-length-2
-same_length_2 c = search rules
-
-returns_2 : tie.Need-returns-2
-returns_2 c = answered _ _ _ _ _ _ false c.if1.false c.before.before.before.before.before.before.before.keeps-rules.ensures c.before.before.before.clear.ensures
-
-pub ask_tree_spec : {M : Type 1} → statement M
-ask_tree_spec =
-    tie.close
-    (tie.spec keeps_rules_requires clear_requires same_length returns same_length_2 returns_2)
+pub returns-else-kept : goal.returns-else-kept
+returns-else-kept c = answered _ _ _ _ _ _ false c.if-kept.false c.keeps_rules-kept.ensures c.clear.ensures
