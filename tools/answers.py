@@ -17,7 +17,7 @@ DECL = re.compile(rf"^((?:(?:abbrev|unfoldable|pub|data|record) )*)({NAME})(?: \
 
 
 def norm(n):
-    return n.replace("_", "-").replace("·", "-")
+    return n.replace("_", "-").replace("·", "-").lower()
 
 
 def chunks(text):

@@ -1,0 +1,12 @@
+-- `lower_center` meets its contract: its cases are those of the definition.
+use borrow.Author.Rules.{rules}
+use Rattle.extent.specs.Extent.{lower_center}
+use Rattle.extent.proofs.lower_center.Goals as goal
+
+pub returns-then-is_finite : goal.returns-then-is_finite
+unfolding lower_center
+returns-then-is_finite c = rw (← c.is_finite.ensures, c.if-is_finite.true) c.min.ensures
+
+pub returns-else-is_finite : goal.returns-else-is_finite
+unfolding lower_center
+returns-else-is_finite c = rw (← c.is_finite.ensures, c.if-is_finite.false)

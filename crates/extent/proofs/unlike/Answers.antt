@@ -1,0 +1,8 @@
+-- `unlike` meets its contract: it is the test of the definition.
+use borrow.Author.Rules.{rules}
+use Rattle.extent.specs.Extent.{unlike}
+use Rattle.extent.proofs.unlike.Goals as goal
+
+pub returns : goal.returns
+unfolding unlike
+returns c = rw (c.order_key.ensures, c.order_key-2.ensures)

@@ -1,0 +1,55 @@
+-- `hits_node` meets its contract: what is met at the planes are the entries and exits of the slabs.
+use native.Mathlib.Omega.{arith}
+use Rattle.rays.specs.Slabs.{slab_hits, all_numbers, slab_same}
+use Rattle.ray_walk.specs.Planes.{places_within, entries, exits}
+use borrow.Author.Rules.{rules}
+use Rattle.ray_walk.proofs.hits_node.Goals as goal
+
+pub overflow_add-i : goal.overflow_add-i
+overflow_add-i c = omega (arith, places_within c.requires, c.requires.there)
+
+pub meets-requires : goal.meets-requires
+meets-requires c = omega (arith, places_within c.requires, c.requires.there)
+
+pub overflow_add-i-2 : goal.overflow_add-i-2
+overflow_add-i-2 c = omega (arith, places_within c.requires, c.requires.there)
+
+pub meets-requires-2 : goal.meets-requires-2
+meets-requires-2 c = omega (arith, places_within c.requires, c.requires.there)
+
+pub overflow_add-i-3 : goal.overflow_add-i-3
+overflow_add-i-3 c = omega (arith, places_within c.requires, c.requires.there)
+
+pub meets-requires-3 : goal.meets-requires-3
+meets-requires-3 c = omega (arith, places_within c.requires, c.requires.there)
+
+pub overflow_sub-near : goal.overflow_sub-near
+overflow_sub-near c = omega (arith, places_within c.requires, c.requires.there)
+
+pub overflow_sub-near-2 : goal.overflow_sub-near-2
+overflow_sub-near-2 c = omega (arith, places_within c.requires, c.requires.there)
+
+pub overflow_sub-near-3 : goal.overflow_sub-near-3
+overflow_sub-near-3 c = omega (arith, places_within c.requires, c.requires.there)
+
+pub overflow_add-i-6 : goal.overflow_add-i-6
+overflow_add-i-6 c = omega (arith, c.well_formed.0.1, places_within c.requires, c.requires.there)
+
+pub meets-requires-6 : goal.meets-requires-6
+meets-requires-6 c = omega (arith, places_within c.requires, c.requires.there)
+
+pub overlap-requires : goal.overlap-requires
+overlap-requires c =
+    let s = c.requires in
+    let n = all_numbers s.met in
+    rw
+    (c.meets.ensures, c.meets-2.ensures, c.meets-4.ensures, c.meets-5.ensures, (entries s).0, (entries s).1, (exits s).0, (exits s).1)
+    (n.0.0, n.1.0, n.0.1, n.1.1)
+
+pub returns : goal.returns
+unfolding slab_hits
+returns c =
+    let s = c.requires in
+    rw
+    (c.overlap.ensures, c.meets-6.ensures, c.meets-5.ensures, c.meets-4.ensures, c.meets-3.ensures, c.meets-2.ensures, c.meets.ensures, (entries s).0, (entries s).1, (entries s).2, (exits s).0, (exits s).1, (exits s).2)
+    (slab_same s.met)

@@ -1,0 +1,8 @@
+-- `inverse` meets its contract: the three quotients.
+use borrow.Author.Rules.{rules}
+use Rattle.scan.specs.Scan.{inverse}
+use Rattle.ray_walk.proofs.inverse.Goals as goal
+
+pub returns : goal.returns
+unfolding inverse
+returns c = c.new.ensures

@@ -1,0 +1,19 @@
+-- `next_leaf` meets its contract. The invariant: the walk has gone on from where the search began, and still comes to the same. The measure is the nodes from its place on.
+use Prim.Native.Nat.{◌-◌}
+use native.Mathlib.Omega.{arith}
+use mathlib.Core.Path.{sym}
+use Rattle.mesh.specs.Mesh.{mesh}
+use Rattle.tree.specs.Tree.{tree, node_count, start_of, count_of}
+use Rattle.scan.specs.Scan.{surface_passes}
+use Rattle.walks.specs.Stacks as Stacks
+use Rattle.walks.specs.Stacks.{Onward}
+use Rattle.surface_walk.proofs.next_leaf.Given as goal
+
+abbrev pub invariant-loop-at : goal.invariant-loop-at
+invariant-loop-at l =
+    let m = mesh l.coords l.corners l.ends in
+    let t = tree l.boxes l.nodes l.items in
+    Onward m t (surface_passes l.eps l.p) l.initial.stack l.initial.at l.stack l.at
+
+abbrev pub decreases-loop-at : goal.decreases-loop-at
+decreases-loop-at l = node_count (tree l.boxes l.nodes l.items) - l.at.node
