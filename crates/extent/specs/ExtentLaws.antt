@@ -68,12 +68,12 @@ finite_on m axis t = Rules.is_finite (center_on m axis t)
 lowest_picked : (m : Mesh) (axis : ℕ) (lo : Float) (l : List ℕ) → lowest m axis lo l ≡ picked false (finite_on m axis) (center_on m axis) lo l
 unfolding lowest picked next pick
 lowest_picked m axis lo [] = refl
-lowest_picked m axis lo (t ∷ rest) = lowest_picked m axis _ rest
+lowest_picked m axis lo (t ∷ rest) = lowest_picked m axis (cond (finite_on m axis t) (Rules.min lo (center_on m axis t)) lo) rest
 
 highest_picked : (m : Mesh) (axis : ℕ) (hi : Float) (l : List ℕ) → highest m axis hi l ≡ picked true (finite_on m axis) (center_on m axis) hi l
 unfolding highest picked next pick
 highest_picked m axis hi [] = refl
-highest_picked m axis hi (t ∷ rest) = highest_picked m axis _ rest
+highest_picked m axis hi (t ∷ rest) = highest_picked m axis (cond (finite_on m axis t) (Rules.max hi (center_on m axis t)) hi) rest
 
 -- a zero is finite
 zero_counts : (x : Float) → T (eq x zero) → T (Rules.is_finite x)

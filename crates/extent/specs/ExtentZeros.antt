@@ -29,7 +29,7 @@ not_none n h = let other = eqb-false n 0 (is_false (eqb n 0) h) in omega arith
 zero_add : (f : Format) (s : Bool) (m : ℕ) (e : ℤ) (t : Bool) (n : ℕ) (d : ℤ) → m ≡ 0 → 0 < n → add f (fin s m e) (fin t n d) ≡ round f t (n * up d) (down d)
 unfolding add
 zero_add f s m e t n d z h =
-    let none : m * up e * down d ≡ 0 = rw (z, Nat.zero-mul (up e), Nat.zero_mul (down d)) in
+    let none : m * up e * down d ≡ 0 = rw (z, Nat.zero-mul (up e), Nat.zero-mul (down d)) in
     rw none
     (sum_zero f s t (n * up d * down e) (down e * down d) (Nat.mul-pos (Nat.mul-pos h (up_pos d)) (down_pos e))
     ∙ round_same f t (n * up d * down e) (down e * down d) (n * up d) (down d) (Nat.mul-pos (down_pos e) (down_pos d)) (down_pos d) (Nat.mul_assoc (n * up d) (down e) (down d)))
