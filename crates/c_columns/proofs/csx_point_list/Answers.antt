@@ -1,0 +1,17 @@
+-- `csx_point_list` meets its contract: `point_list` promises the listing and its bytes or the refusal, and the number of that is returned.
+use mathlib.Core.Path.{sym, ◌∙◌}
+use borrow.Author.Rules.{rules}
+use Rattle.column.specs.CallLaws.{listed_refused, listed_bytes}
+use Rattle.c_columns.proofs.csx_point_list.Goals as goal
+
+pub returns-in-Refused : goal.returns-in-Refused
+returns-in-Refused c =
+    let lists = c.point_list.ensures in
+    let refused = listed_refused _ _ _ (sym lists.answer ∙ c.in-Refused.is) in
+    record { answer = rw refused c.code.ensures; listing = lists.listing }
+
+pub returns-in-Bytes : goal.returns-in-Bytes
+returns-in-Bytes c =
+    let lists = c.point_list.ensures in
+    let found = listed_bytes _ _ _ (sym lists.answer ∙ c.in-Bytes.is) in
+    record { answer = rw found.0 found.1; listing = lists.listing }
