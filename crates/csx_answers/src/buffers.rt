@@ -1,5 +1,6 @@
 // Words of the input put into buffers.
 use crate::input::{NONE, read_word};
+use std::io::Read;
 
 // What is seen of buffers while words are put into them: they held these words, they held others, or a word is none that
 // such a buffer can hold.
@@ -37,15 +38,13 @@ fn float_of(bits: u64) -> f64 {
 }
 
 // Each of these four puts a word of the input into each place of a buffer, and returns what is seen.
-fn floats(before: u64, buffer: &mut [f64]) -> u64 {
+fn floats(before: u64, input: &mut impl Read, buffer: &mut [f64]) -> u64 {
     let mut now = before;
-    let mut i = 0;
-    while i < buffer.len() {
-        let word = read_word();
+    for place in buffer.iter_mut() {
+        let word = read_word(input);
         let x = float_of(word);
-        now = seen(now, word, bits_of(buffer[i]), bits_of(x));
-        buffer[i] = x;
-        i += 1;
+        now = seen(now, word, bits_of(*place), bits_of(x));
+        *place = x;
     }
     now
 }
@@ -54,15 +53,13 @@ fn wide_number(n: u32) -> u64 {
     n as u64
 }
 
-pub fn numbers(before: u64, buffer: &mut [u32]) -> u64 {
+pub fn numbers(before: u64, input: &mut impl Read, buffer: &mut [u32]) -> u64 {
     let mut now = before;
-    let mut i = 0;
-    while i < buffer.len() {
-        let word = read_word();
+    for place in buffer.iter_mut() {
+        let word = read_word(input);
         let n = word % 0x1_0000_0000;
-        now = seen(now, word, wide_number(buffer[i]), n);
-        buffer[i] = n as u32;
-        i += 1;
+        now = seen(now, word, wide_number(*place), n);
+        *place = n as u32;
     }
     now
 }
@@ -71,33 +68,30 @@ fn wide_byte(n: u8) -> u64 {
     n as u64
 }
 
-fn bytes(before: u64, buffer: &mut [u8]) -> u64 {
+fn bytes(before: u64, input: &mut impl Read, buffer: &mut [u8]) -> u64 {
     let mut now = before;
-    let mut i = 0;
-    while i < buffer.len() {
-        let word = read_word();
+    for place in buffer.iter_mut() {
+        let word = read_word(input);
         let n = word % 256;
-        now = seen(now, word, wide_byte(buffer[i]), n);
-        buffer[i] = n as u8;
-        i += 1;
+        now = seen(now, word, wide_byte(*place), n);
+        *place = n as u8;
     }
     now
 }
 
-fn words(before: u64, buffer: &mut [u64]) -> u64 {
+fn words(before: u64, input: &mut impl Read, buffer: &mut [u64]) -> u64 {
     let mut now = before;
-    let mut i = 0;
-    while i < buffer.len() {
-        let word = read_word();
-        now = seen(now, word, buffer[i], word);
-        buffer[i] = word;
-        i += 1;
+    for place in buffer.iter_mut() {
+        let word = read_word(input);
+        now = seen(now, word, *place, word);
+        *place = word;
     }
     now
 }
 
 // The same with the buffers of a record in their order.
 pub fn all(
+    input: &mut impl Read,
     coords: &mut [f64],
     boxes: &mut [f64],
     points: &mut [f64],
@@ -108,10 +102,14 @@ pub fn all(
     work: &mut [u64],
     answers: &mut [u8],
 ) -> u64 {
-    let floats = floats(floats(floats(HELD, coords), boxes), points);
-    let numbers = numbers(
-        numbers(numbers(numbers(floats, corners), ends), nodes),
-        items,
-    );
-    bytes(words(numbers, work), answers)
+    let mut now = HELD;
+    now = floats(now, input, coords);
+    now = floats(now, input, boxes);
+    now = floats(now, input, points);
+    now = numbers(now, input, corners);
+    now = numbers(now, input, ends);
+    now = numbers(now, input, nodes);
+    now = numbers(now, input, items);
+    now = words(now, input, work);
+    bytes(now, input, answers)
 }

@@ -1,5 +1,5 @@
 // Words of standard input: 16 hexadecimal digits, in small letters, and one byte more.
-use libc::STDIN_FILENO;
+use std::io::Read;
 
 // Stands for what is no number. It is the pattern of a NaN, which no record has.
 pub const NONE: u64 = 0xFFF8_0000_0000_0001;
@@ -16,22 +16,32 @@ fn digit(b: u8) -> u64 {
 // The number that the first 16 bytes write, or NONE. Nothing is lost by the remainder: it only shows that no digit is.
 pub fn number(text: &[u8; 17]) -> u64 {
     let mut n: u64 = 0;
-    let mut i = 0;
-    while i < 16 {
-        let d = digit(text[i]);
+    for b in &text[..16] {
+        let d = digit(*b);
         if 15 < d {
             return NONE;
         }
         n = n % 0x1000_0000_0000_0000 * 16 + d;
-        i += 1;
     }
     n
 }
 
+// Reads until the buffer is full, the input ends or a read fails. Returns how many bytes were read.
+pub fn read_full(input: &mut impl Read, buffer: &mut [u8]) -> usize {
+    let mut done = 0;
+    while done < buffer.len() {
+        match input.read(&mut buffer[done..]) {
+            Err(_) | Ok(0) => break,
+            Ok(n) => done += n,
+        }
+    }
+    done
+}
+
 // The next word of the input, or NONE.
-pub fn read_word() -> u64 {
+pub fn read_word(input: &mut impl Read) -> u64 {
     let mut text = [0u8; 17];
-    if io::read_full(STDIN_FILENO, &mut text) < 17 {
+    if read_full(input, &mut text) < 17 {
         return NONE;
     }
     number(&text)

@@ -12,7 +12,8 @@ ghost use Rattle.std.specs.Prelude.{◌≤◌};
 
 use crate::buffers::{HELD, UNREADABLE};
 use crate::input::NONE;
-use libc::{STDIN_FILENO, STDOUT_FILENO};
+use std::io;
+use std::io::Read;
 
 // The places of the counts: of the records that say what the engine does, of those that do not, and of those that cannot
 // be read.
@@ -49,7 +50,7 @@ fn fit(s: &[u32; 9]) -> bool {
 }
 
 // Calls the engine as a record of this kind says, with buffers of these sizes. Returns the place of its count.
-fn replayed(kind: u64, sizes: &[u32; 9]) -> usize {
+fn replayed(input: &mut impl Read, kind: u64, sizes: &[u32; 9]) -> usize {
     let mut coords = [0.0; 511];
     let mut boxes = [0.0; 511];
     let mut points = [0.0; 511];
@@ -69,63 +70,63 @@ fn replayed(kind: u64, sizes: &[u32; 9]) -> usize {
     let work = &mut work[..places(sizes[7])];
     let answers = &mut answers[..places(sizes[8])];
     let before = buffers::all(
-        coords, boxes, points, corners, ends, nodes, items, work, answers,
+        input, coords, boxes, points, corners, ends, nodes, items, work, answers,
     );
     let returned = calls::call(
         kind, coords, boxes, points, corners, ends, nodes, items, work, answers,
     );
-    let expected = input::read_word();
+    let expected = input::read_word(input);
     let after = buffers::all(
-        coords, boxes, points, corners, ends, nodes, items, work, answers,
+        input, coords, boxes, points, corners, ends, nodes, items, work, answers,
     );
     outcome(before, returned, expected, after)
 }
 
 // The place of the count of the next record, of this kind.
-fn replayed_next(kind: u64) -> usize {
+fn replayed_next(input: &mut impl Read, kind: u64) -> usize {
     let mut sizes = [0u32; 9];
-    if buffers::numbers(HELD, &mut sizes) == UNREADABLE {
+    if buffers::numbers(HELD, input, &mut sizes) == UNREADABLE {
         return BROKEN;
     }
     if fit(&sizes) {
-        return replayed(kind, &sizes);
+        return replayed(input, kind, &sizes);
     }
     BROKEN
 }
 
 // Replays the next record of the input and counts it. False if there is no other to be read after it.
-fn replay_next(counts: &mut [u64; 3]) -> bool {
+fn replay_next(input: &mut impl Read, counts: &mut [u64; 3]) -> bool {
     let mut text = [0u8; 17];
-    if io::read_full(STDIN_FILENO, &mut text) == 0 {
+    if input::read_full(input, &mut text) == 0 {
         return false;
     }
-    let place = replayed_next(input::number(&text));
+    let place = replayed_next(input, input::number(&text));
     if place < 3 {
-        counts[place] = std::num::wrapping_add_u64(counts[place], 1);
+        counts[place] = counts[place].wrapping_add(1);
     }
     place < BROKEN
 }
 
 // Writes a name and a number in a line.
-fn print_count(name: &[u8], n: u64) {
-    io::write_all(STDOUT_FILENO, name);
-    io::print_decimal(STDOUT_FILENO, n);
-    io::write_all(STDOUT_FILENO, b"\n");
+fn print_count(rt: &impl Print, name: &str, n: u64) -> io::Result<()> {
+    println!(rt; "{name} {n}")
 }
 
 // Writes all counts.
-fn report(counts: &[u64; 3]) {
-    print_count(b"equal ", counts[EQUAL]);
-    print_count(b"different ", counts[DIFFERENT]);
-    print_count(b"unreadable ", counts[BROKEN]);
+fn report(rt: &impl Print, counts: &[u64; 3]) -> io::Result<()> {
+    print_count(rt, "equal", counts[EQUAL])?;
+    print_count(rt, "different", counts[DIFFERENT])?;
+    print_count(rt, "unreadable", counts[BROKEN])
 }
 
 // Replays the records of the input, 100,000 at most, up to the first that cannot be read.
-fn main() {
+fn main(rt: HostRuntime) -> io::Result<()> {
+    let mut input = rt.stdin();
     let mut counts = [0u64; 3];
-    let mut left: usize = 100_000;
-    while left > 0 && replay_next(&mut counts) {
-        left -= 1;
+    for _ in 0..100_000 {
+        if !replay_next(&mut input, &mut counts) {
+            break;
+        }
     }
-    report(&counts);
+    report(&rt, &counts)
 }

@@ -2,7 +2,7 @@
 ghost use Rattle.std.specs.Prelude.{length};
 ghost use Rattle.point_list.specs.Input as Inputs;
 
-use libc::STDIN_FILENO;
+use std::io::Read;
 
 // How many bytes were read, or that reading failed.
 #[derive(Clone, Copy)]
@@ -12,20 +12,16 @@ pub enum Input {
 }
 
 // Reads until the buffer is full, the input ends or a read fails.
-pub fn read_text(buffer: &mut [u8]) -> Input
+pub fn read_text(reader: &mut impl Read, buffer: &mut [u8]) -> Input
     ensures { Inputs.Within (length buffer.new) result }
 {
     let mut done = 0;
     while done < buffer.len() {
-        let got = libc::read(STDIN_FILENO, &mut buffer[done..]);
-        if got < 0 {
-            return Input::Failed;
+        match reader.read(&mut buffer[done..]) {
+            Err(_) => return Input::Failed,
+            Ok(0) => return Input::Bytes(done),
+            Ok(n) => done += n,
         }
-        let n = io::count(got, &buffer[done..]);
-        if n == 0 {
-            return Input::Bytes(done);
-        }
-        done += n;
     }
     Input::Bytes(done)
 }

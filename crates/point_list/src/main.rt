@@ -7,27 +7,23 @@ mod work;
 
 use crate::input::{Input, read_text};
 use crate::work::listing_of;
-use libc::{STDERR_FILENO, STDOUT_FILENO};
 
 // Prints the listing of a text, or the refusal's header.
-fn print_listing(text: &[u8]) {
+fn print_listing(rt: &(impl Print + Eprint), text: &[u8]) {
     let mut listing = [0u8; 5130];
     let n = listing_of(text, &mut listing);
-    if !io::write_all(STDOUT_FILENO, &listing[..n]) {
-        io::write_all(
-            STDERR_FILENO,
-            b"point-list: the listing could not be written\n",
-        );
+    if rt.write_all(&listing[..n]).is_err() {
+        let _ = rt.eprintln("point-list: the listing could not be written");
     }
 }
 
 // Reads no more than is needed to judge the text: 1,024 lines and one byte.
-fn main() {
-    let mut buffer = io::large_buffer();
-    match read_text(&mut buffer[..36865]) {
+fn main(rt: HostRuntime) {
+    let mut buffer = [0u8; 36865];
+    match read_text(&mut rt.stdin(), &mut buffer) {
         Input::Failed => {
-            io::write_all(STDERR_FILENO, b"point-list: the input could not be read\n");
+            let _ = rt.eprintln("point-list: the input could not be read");
         }
-        Input::Bytes(n) => print_listing(&buffer[..n]),
+        Input::Bytes(n) => print_listing(&rt, &buffer[..n]),
     }
 }
