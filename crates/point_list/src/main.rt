@@ -6,11 +6,11 @@ mod input;
 mod work;
 
 use crate::input::{Input, read_text};
-use crate::work::listing_of;
+use crate::work::{LONGEST, listing_of};
 
 // Prints the listing of a text, or the refusal's header.
 fn print_listing(rt: &(impl Print + Eprint), text: &[u8]) {
-    let mut listing = [0u8; 5130];
+    let mut listing = [0u8; LONGEST];
     let n = listing_of(text, &mut listing);
     if rt.write_all(&listing[..n]).is_err() {
         let _ = rt.eprintln("point-list: the listing could not be written");

@@ -3,12 +3,15 @@ ghost use Rattle.point_list.specs.Printed as Printed;
 
 use column::Listed;
 
+// The bytes of the longest listing: its header, and a row for each of 512 points.
+pub const LONGEST: usize = 5130;
+
 // Writes what is printed for a text, and returns how many bytes that is: the listing, or the refusal's header. Nothing
 // is written into a buffer that is too short for the longest listing.
 pub fn listing_of(text: &[u8], listing: &mut [u8]) -> usize
     ensures { Printed.Prints text.now listing.old result listing.new }
 {
-    if listing.len() < 5130 {
+    if listing.len() < LONGEST {
         return 0;
     }
     match column::point_list(text, listing) {

@@ -1,0 +1,35 @@
+-- By cases of what the call answers.
+use Rattle.std.proofs.Common.{length, arith, sym, ◌∙◌}
+use borrow.Author.Tests.{le-leb, lt-leb}
+use Rattle.lent.specs.Over.{over_nothing}
+use Rattle.refusal.specs.Verdicts.{written}
+use Rattle.listing.specs.Listing.{header}
+use Rattle.listing.specs.ListingLaws.{length_line}
+use Rattle.column.specs.Column.{column_answer}
+use Rattle.column.specs.CallLaws.{listed_refused, listed_bytes}
+use Rattle.point_list.specs.Printed.{answer_or, printed}
+use Rattle.point_list.proofs.work.listing_of.Goals as goal
+
+pub returns-then-listing-lt-LONGEST : goal.returns-then-listing-lt-LONGEST
+unfolding printed
+returns-then-listing-lt-LONGEST c =
+    let short = lt-leb 5130 (length c.args.listing.now) (omega arith) in
+    record { bytes = rw short; listing = rw short (sym (over_nothing c.args.listing.now)) }
+
+pub returns-in-Refused : goal.returns-in-Refused
+unfolding printed answer_or column_answer written header
+returns-in-Refused c =
+    let lists = c.point_list.ensures in
+    let enough = le-leb 5130 (length c.args.listing.now) (omega arith) in
+    let refused = listed_refused _ _ _ (sym lists.answer ∙ c.in-Refused.is) in
+    let same = rw refused at lists.listing in
+    let written = rw (c.number.ensures, c.place.ensures, same, over_nothing) at c.write_header.ensures in
+    record { bytes = rw (enough, refused) (sym (length_line 3 _ _ (omega arith))); listing = rw (enough, refused) written }
+
+pub returns-in-Bytes : goal.returns-in-Bytes
+unfolding printed answer_or
+returns-in-Bytes c =
+    let lists = c.point_list.ensures in
+    let enough = le-leb 5130 (length c.args.listing.now) (omega arith) in
+    let found = listed_bytes _ _ _ (sym lists.answer ∙ c.in-Bytes.is) in
+    record { bytes = rw (enough, found.0) found.1; listing = rw (enough, found.0) lists.listing }
