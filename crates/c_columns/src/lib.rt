@@ -1,4 +1,4 @@
-// The C function for column text, as include/zirwennach.h declares it.
+// The function for column text that crate `zirwennach` gives to C, as include/zirwennach.h declares it.
 #![tactic(auto)]
 
 ghost use Rattle.c_columns.specs.Columns as Columns;
@@ -6,8 +6,7 @@ ghost use Rattle.c_columns.specs.Columns as Columns;
 use column::Listed;
 
 // Column text in, a listing out. Returns how many bytes the listing has.
-#[unsafe(no_mangle)]
-pub extern "C" fn csx_point_list(text: &[u8], listing: &mut [u8]) -> u64
+pub fn csx_point_list(text: &[u8], listing: &mut [u8]) -> u64
     ensures { Columns.Lists text.now listing.old result listing.new }
 {
     match column::point_list(text, listing) {

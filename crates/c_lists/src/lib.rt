@@ -1,4 +1,4 @@
-// The C function that answers a list of points, as include/zirwennach.h declares it.
+// The function that answers a list of points, which crate `zirwennach` gives to C, as include/zirwennach.h declares it.
 #![tactic(auto)]
 
 ghost use Rattle.mesh.specs.Mesh as Mesh;
@@ -8,8 +8,7 @@ ghost use Rattle.c_lists.specs.Lists as Lists;
 use refusal::Verdict;
 
 // `contains_list` of crate `polyhedron`. Returns 0 if nothing is refused.
-#[unsafe(no_mangle)]
-pub extern "C" fn csx_contains_list(
+pub fn csx_contains_list(
     coords: &[f64],
     corners: &[u32],
     ends: &[u32],

@@ -1,4 +1,4 @@
-// The C functions for meshes and trees, as include/zirwennach.h declares them.
+// The functions for meshes and trees that crate `zirwennach` gives to C, as include/zirwennach.h declares them.
 #![tactic(auto)]
 
 pub mod meshes;

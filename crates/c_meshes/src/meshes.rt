@@ -1,4 +1,4 @@
-// Welding as a C function.
+// Welding as a function for C.
 ghost use Rattle.c_meshes.specs.Welding as Welding;
 
 use refusal::{Refusal, Verdict};
@@ -6,8 +6,7 @@ use weld::Welded;
 
 // Welds triangles, nine numbers each, into a mesh. `sizes` then begins with how many vertices and faces
 // were written.
-#[unsafe(no_mangle)]
-pub extern "C" fn csx_from_triangles(
+pub fn csx_from_triangles(
     triangles: &[f64],
     coords: &mut [f64],
     corners: &mut [u32],

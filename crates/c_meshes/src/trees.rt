@@ -1,4 +1,4 @@
-// The tree entries as C functions.
+// The tree entries as functions for C.
 ghost use Rattle.mesh.specs.Mesh as Mesh;
 ghost use Rattle.tree.specs.Tree as Tree;
 ghost use Rattle.c_meshes.specs.Trees as Trees;
@@ -7,8 +7,7 @@ use bvh::build::Built;
 use refusal::Verdict;
 
 // Builds the tree of a mesh, and returns how many nodes it has.
-#[unsafe(no_mangle)]
-pub extern "C" fn csx_build_tree(
+pub fn csx_build_tree(
     coords: &[f64],
     corners: &[u32],
     ends: &[u32],
@@ -27,8 +26,7 @@ pub extern "C" fn csx_build_tree(
 
 // Whether a lent tree keeps the tree rules for a mesh. The work places that are needed, one a corner, hold 0
 // then.
-#[unsafe(no_mangle)]
-pub extern "C" fn csx_check_tree(
+pub fn csx_check_tree(
     coords: &[f64],
     corners: &[u32],
     ends: &[u32],

@@ -1,5 +1,5 @@
-// The C functions for shapes and the square root, as include/zirwennach.h declares them. A shape function
-// answers 0 for outside, 1 for inside, or the refusal.
+// The functions for shapes and the square root that crate `zirwennach` gives to C, as include/zirwennach.h declares
+// them. A shape function answers 0 for outside, 1 for inside, or the refusal.
 #![tactic(auto)]
 
 ghost use Rattle.std.specs.Prelude.{◌≡◌, []};
@@ -27,8 +27,7 @@ fn alone(shape: Shape, p: Vec3) -> u64
 }
 
 // Whether the point x, y, z lies in the sphere.
-#[unsafe(no_mangle)]
-pub extern "C" fn csx_sphere(cx: f64, cy: f64, cz: f64, radius: f64, x: f64, y: f64, z: f64) -> u64
+pub fn csx_sphere(cx: f64, cy: f64, cz: f64, radius: f64, x: f64, y: f64, z: f64) -> u64
     ensures { result ≡ value (shape_answer (Shapes.Sphere (vec cx cy cz) radius) [] (vec x y z)) }
 {
     alone(
@@ -45,18 +44,7 @@ pub extern "C" fn csx_sphere(cx: f64, cy: f64, cz: f64, radius: f64, x: f64, y: 
 }
 
 // The box with opposite corners a and b.
-#[unsafe(no_mangle)]
-pub extern "C" fn csx_box(
-    ax: f64,
-    ay: f64,
-    az: f64,
-    bx: f64,
-    by: f64,
-    bz: f64,
-    x: f64,
-    y: f64,
-    z: f64,
-) -> u64
+pub fn csx_box(ax: f64, ay: f64, az: f64, bx: f64, by: f64, bz: f64, x: f64, y: f64, z: f64) -> u64
     ensures { result ≡ value (shape_answer (Shapes.Box (vec ax ay az) (vec bx by bz)) [] (vec x y z)) }
 {
     alone(
@@ -77,8 +65,7 @@ pub extern "C" fn csx_box(
 }
 
 // The same with corners and point in cylindrical coordinates: radius, angle, height.
-#[unsafe(no_mangle)]
-pub extern "C" fn csx_box_cylindrical(
+pub fn csx_box_cylindrical(
     ax: f64,
     ay: f64,
     az: f64,
@@ -109,16 +96,14 @@ pub extern "C" fn csx_box_cylindrical(
 }
 
 // Boxes, each the six numbers of two opposite corners in the list.
-#[unsafe(no_mangle)]
-pub extern "C" fn csx_multi_box(list: &[f64], x: f64, y: f64, z: f64) -> u64
+pub fn csx_multi_box(list: &[f64], x: f64, y: f64, z: f64) -> u64
     ensures { result ≡ value (shape_answer Shapes.MultiBox list.now (vec x y z)) }
 {
     asked(Shape::MultiBox, list, Vec3 { x: x, y: y, z: z })
 }
 
 // The points within half the width of the sphere's surface.
-#[unsafe(no_mangle)]
-pub extern "C" fn csx_spherical_shell(
+pub fn csx_spherical_shell(
     cx: f64,
     cy: f64,
     cz: f64,
@@ -145,8 +130,7 @@ pub extern "C" fn csx_spherical_shell(
 }
 
 // The cylinder around the axis from a to b.
-#[unsafe(no_mangle)]
-pub extern "C" fn csx_cylinder(
+pub fn csx_cylinder(
     ax: f64,
     ay: f64,
     az: f64,
@@ -179,8 +163,7 @@ pub extern "C" fn csx_cylinder(
 }
 
 // The points between the ends within half the width of the cylinder's mantle.
-#[unsafe(no_mangle)]
-pub extern "C" fn csx_cylindrical_shell(
+pub fn csx_cylindrical_shell(
     ax: f64,
     ay: f64,
     az: f64,
@@ -215,15 +198,7 @@ pub extern "C" fn csx_cylindrical_shell(
 }
 
 // The polygon in the plane at the elevation normal to axis 0, 1 or 2; two numbers a vertex in the list.
-#[unsafe(no_mangle)]
-pub extern "C" fn csx_polygon(
-    normal: u64,
-    elevation: f64,
-    list: &[f64],
-    x: f64,
-    y: f64,
-    z: f64,
-) -> u64
+pub fn csx_polygon(normal: u64, elevation: f64, list: &[f64], x: f64, y: f64, z: f64) -> u64
     ensures { result ≡ value (shape_answer (Shapes.Polygon normal elevation) list.now (vec x y z)) }
 {
     asked(
@@ -237,8 +212,7 @@ pub extern "C" fn csx_polygon(
 }
 
 // The polygon extruded along the axis by the length.
-#[unsafe(no_mangle)]
-pub extern "C" fn csx_lin_poly(
+pub fn csx_lin_poly(
     normal: u64,
     elevation: f64,
     length: f64,
@@ -261,8 +235,7 @@ pub extern "C" fn csx_lin_poly(
 }
 
 // The points within the radius of the polyline; three numbers a point in the list.
-#[unsafe(no_mangle)]
-pub extern "C" fn csx_wire(list: &[f64], radius: f64, x: f64, y: f64, z: f64) -> u64
+pub fn csx_wire(list: &[f64], radius: f64, x: f64, y: f64, z: f64) -> u64
     ensures { result ≡ value (shape_answer (Shapes.Wire radius) list.now (vec x y z)) }
 {
     asked(
@@ -273,16 +246,14 @@ pub extern "C" fn csx_wire(list: &[f64], radius: f64, x: f64, y: f64, z: f64) ->
 }
 
 // The polyline itself, which holds no point.
-#[unsafe(no_mangle)]
-pub extern "C" fn csx_curve(list: &[f64], x: f64, y: f64, z: f64) -> u64
+pub fn csx_curve(list: &[f64], x: f64, y: f64, z: f64) -> u64
     ensures { result ≡ value (shape_answer Shapes.Curve list.now (vec x y z)) }
 {
     asked(Shape::Curve, list, Vec3 { x: x, y: y, z: z })
 }
 
 // The point a, which holds no point.
-#[unsafe(no_mangle)]
-pub extern "C" fn csx_point(ax: f64, ay: f64, az: f64, x: f64, y: f64, z: f64) -> u64
+pub fn csx_point(ax: f64, ay: f64, az: f64, x: f64, y: f64, z: f64) -> u64
     ensures { result ≡ value (shape_answer (Shapes.Point (vec ax ay az)) [] (vec x y z)) }
 {
     alone(
@@ -298,8 +269,7 @@ pub extern "C" fn csx_point(ax: f64, ay: f64, az: f64, x: f64, y: f64, z: f64) -
 }
 
 // The square root: the nearest f64, as IEEE 754 has it.
-#[unsafe(no_mangle)]
-pub extern "C" fn csx_root(x: f64) -> f64
+pub fn csx_root(x: f64) -> f64
     ensures { result ≡ Root.root x }
 {
     sqrt::root(x)

@@ -1,0 +1,9 @@
+// The engine as C calls it: the functions that include/zirwennach.h declares. Each calls the function of its name in the
+// libraries below, and promises what that promises.
+#![tactic(auto)]
+
+pub mod columns;
+pub mod lists;
+pub mod shape_questions;
+pub mod trees;
+pub mod welding;
