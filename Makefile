@@ -9,39 +9,32 @@ VIEWER_FLAGS = -std=c++17 -O2 -Wall -Wextra -Wpedantic -Wconversion -Wshadow -We
 # csx with the differences that the port lists is compiled in a folder of its own.
 PORT = --features port --target-dir target/port
 
-C_CRATES = c_shapes c_meshes c_lists c_columns
-SOURCES := crates.txt $(shell find crates -name '*.rt' -o -name '*.antt')
+# What proofs and builds read. What rt makes of it lies in the crates too, in out/.
+SOURCES := crates.txt $(shell find crates -name out -prune -o \( -name '*.rt' -o -name '*.antt' \) -print)
 
-run:
-	rt check point_list
+run: target/bin/point_list
 	target/bin/point_list < crates/point_list/stdin
 
 test:
 	.ci/run
 
-library:
-	$(MAKE) --no-print-directory -j 2 target/libzirwennach.a
+library: target/libzirwennach.a
 
 # What the tests link: the library, and the functions that only tests call.
-archives:
-	$(MAKE) --no-print-directory -j 2 target/libzirwennach.a target/staticlib/libprobes.a
+archives: target/libzirwennach.a target/staticlib/libprobes.a
 
-# One archive of all objects.
-target/libzirwennach.a: $(C_CRATES:%=target/staticlib/lib%.a)
-	printf '%s\n' 'create $@' $(^:%='addlib %') save end | ar -M
+target/libzirwennach.a: crate = zirwennach
+target/staticlib/libprobes.a: crate = probes
+target/libzirwennach.a target/staticlib/libprobes.a: $(SOURCES)
+	cd crates/$(crate) && rt lib
+	install -D -m 644 crates/$(crate)/out/lib$(crate).a $@
 
-# Two calls of rt at once in one folder read each other's notes. So each archive is made in a folder of its
-# own, to which the sources and what is proved are linked.
-target/staticlib/lib%.a: target/library-proved
-	mkdir -p target/archives/$*/target target/staticlib
-	ln -sfn ../../../crates.txt ../../../crates target/archives/$*
-	ln -sfn ../../../rlib ../../../stamp target/archives/$*/target
-	cd target/archives/$* && rt staticlib $*
-	mv target/archives/$*/target/staticlib/lib$*.a $@
-
-target/library-proved: $(SOURCES)
-	rt check $(C_CRATES)
-	touch $@
+# rt runs the program that it has proved and built, here for the build alone.
+target/bin/point_list: crate = point_list
+target/replay: crate = csx_answers
+target/bin/point_list target/replay: $(SOURCES)
+	cd crates/$(crate) && rt run < stdin > /dev/null
+	install -D crates/$(crate)/out/$(crate) $@
 
 target/viewer: target/libzirwennach.a examples/viewer.cpp include/zirwennach.h
 	g++ $(VIEWER_FLAGS) -Iinclude examples/viewer.cpp -Ltarget -lzirwennach -lm -o $@
@@ -62,11 +55,6 @@ compare-published:
 compare-port:
 	tests/target/port/release/compare large --counts tests/target/port.counts
 
-# The program that replays csx's answers, linked with this machine's C library: what rt links asks for a newer one.
-target/replay: $(SOURCES)
-	rt check csx_answers
-	cc target/obj/csx_answers.o -lm -o $@
-
 replay: target/replay
 	target/replay < crates/csx_answers/stdin
 
@@ -80,6 +68,5 @@ load: archives
 bench: archives
 	cd tests && cargo run --offline --locked --release --bin bench
 
-install:
-	rt check point_list
+install: target/bin/point_list
 	install -D target/bin/point_list $(DESTDIR)$(PREFIX)/bin/point-list
