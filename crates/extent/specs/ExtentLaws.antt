@@ -17,8 +17,8 @@ use Rattle.math.specs.declared.Vec3.{Vec3}
 use Rattle.math.specs.declared.BoundingBox.{BoundingBox}
 use Rattle.math.specs.Vectors as Vectors
 use Rattle.math.specs.Vectors.{component}
-use Rattle.math.specs.Boxes.{box, empty, include, size, center, join}
-use Rattle.mesh.specs.Boxes.{vertex, triangle_box, triangle_center}
+use Rattle.math.specs.Boxes.{box, empty, include, size, join}
+use Rattle.mesh.specs.Boxes.{vertex, triangle_box}
 use Rattle.mesh.specs.Mesh.{Mesh, own_box}
 use Rattle.builder.specs.BuilderLaws.{each, center_fits}
 use Rattle.builder.specs.Builder.{center_of, center_on, lowest, highest, spread, wider, split_axis, join_all, node_box}

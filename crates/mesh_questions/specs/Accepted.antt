@@ -1,6 +1,6 @@
 -- What holds of a mesh that questions 1 to 5 let pass.
 use Rattle.std.specs.Prelude.{ℕ, zero, suc, ◌+◌, ◌-◌, ◌*◌, ◌/◌, ◌≤◌, ◌<◌, ◌≡◌, refl, Bool, true, false, List, [], ◌∷◌, leb, ltb, Float, length, get_or, take, drop}
-use Rattle.std.proofs.Common.{arith, ◌∙◌, length-take, length-drop, get_or-take, get_or-drop, leb-true, eqb-true, ltb-true, ltb-false}
+use Rattle.std.proofs.Common.{arith, length-take, length-drop, get_or-take, get_or-drop, leb-true, eqb-true, ltb-true, ltb-false}
 use Rattle.std.specs.Float.{nan}
 use Rattle.math.specs.declared.Vec3.{Vec3}
 use Rattle.math.specs.Vectors as Vectors

@@ -4,7 +4,7 @@
 use Rattle.std.specs.Prelude.{◌≡◌, refl, Bool, true, false, not, cond, ◌||◌, T, Float}
 use Rattle.std.proofs.Common.{inl, inr, T_not}
 use Rattle.std.specs.Float.{nan, inf, fin, binary64}
-use Rattle.std.specs.Float.Ieee.{low, neg, lt, le, eq, ne}
+use Rattle.std.specs.Float.Ieee.{neg, lt, le, eq, ne}
 use Rattle.std.specs.Float.Ieee.Bits.{is_true}
 use Rattle.std.specs.Float.Ieee.Fits.{mul-fits}
 use Rattle.float.specs.Arithmetic.{◌⊖◌, ◌⊗◌, zero}

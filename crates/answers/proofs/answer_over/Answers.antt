@@ -3,7 +3,6 @@ use native.Mathlib.Omega.{arith}
 use mathlib.Core.Path.{refl}
 use lib.ListN.{length, length-take}
 use Rattle.answers.specs.AnswerLaws.{not_refused, few_nodes, boxes_found, node_numbers_found, items_found, answers_found}
-use borrow.Author.Rules.{rules}
 use Rattle.answers.proofs.answer_over.Goals as goal
 
 pub overflow_mul-n : goal.overflow_mul-n

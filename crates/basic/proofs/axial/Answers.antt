@@ -5,7 +5,6 @@ use lib.Ieee.{eq}
 use Rattle.float.specs.Arithmetic.{zero}
 use Rattle.math.specs.Vectors.{sub, norm_sq}
 use Rattle.basic.specs.Round.{axial}
-use borrow.Author.Rules.{rules}
 use Rattle.basic.proofs.axial.Goals as goal
 
 pub returns-then-l2 : goal.returns-then-l2

@@ -1,6 +1,5 @@
 -- `between_ends` meets its contract: the calls promise the parts of the definition.
 use Rattle.basic.specs.Round.{between_ends}
-use borrow.Author.Rules.{rules}
 use Rattle.basic.proofs.between_ends.Goals as goal
 
 pub returns : goal.returns

@@ -1,6 +1,5 @@
 -- `in_shell` meets its contract: the calls promise the parts of the definition.
 use Rattle.basic.specs.Round.{in_shell}
-use borrow.Author.Rules.{rules}
 use Rattle.basic.proofs.in_shell.Goals as goal
 
 pub returns : goal.returns

@@ -1,7 +1,6 @@
 -- `inside_cylinder` meets its contract: the calls promise the parts of the definition.
 use mathlib.Core.Path.{sym, ◌∙◌}
 use Rattle.basic.specs.Round.{inside_cylinder, in_cylinder}
-use borrow.Author.Rules.{rules}
 use Rattle.basic.proofs.inside_cylinder.Goals as goal
 
 pub returns-in-At : goal.returns-in-At

@@ -1,8 +1,6 @@
 -- `inside_cylindrical_box` meets its contract: its tests are those of the definition, in its order.
 use mathlib.Core.Path.{sym, ◌∙◌}
-use borrow.Author.Tests.{not-true, not-false}
 use Rattle.basic.specs.Boxes.{inside_cylindrical_box}
-use borrow.Author.Rules.{rules}
 use Rattle.basic.proofs.inside_cylindrical_box.Goals as goal
 
 pub returns-then-not-in_range : goal.returns-then-not-in_range

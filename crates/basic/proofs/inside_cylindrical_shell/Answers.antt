@@ -1,7 +1,6 @@
 -- `inside_cylindrical_shell` meets its contract: the calls promise the parts of the definition.
 use mathlib.Core.Path.{sym, ◌∙◌}
 use Rattle.basic.specs.Round.{inside_cylindrical_shell, in_tube}
-use borrow.Author.Rules.{rules}
 use Rattle.basic.proofs.inside_cylindrical_shell.Goals as goal
 
 pub returns-in-At : goal.returns-in-At

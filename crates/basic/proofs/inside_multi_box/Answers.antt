@@ -1,11 +1,10 @@
-use Prim.Native.Nat.{◌≤◌, ◌+◌, ◌-◌, ◌*◌}
+use Prim.Native.Nat.{◌+◌, ◌*◌}
 use native.Mathlib.Omega.{arith}
 use mathlib.Core.Path.{◌≡◌, refl, sym, ◌∙◌}
 use mathlib.Core.Bool.{true, false}
-use lib.ListN.{drop}
 use borrow.Author.Rules.{rules}
-use Rattle.math.specs.Vectors.{at, points}
-use Rattle.basic.specs.Boxes.{inside_box, in_some_box, inside_multi_box, in_some_box_next, in_some_box_end}
+use Rattle.math.specs.Vectors.{at}
+use Rattle.basic.specs.Boxes.{inside_box, inside_multi_box, in_some_box_next, in_some_box_end}
 use Rattle.basic.proofs.inside_multi_box.Goals as goal
 
 pub loop-k-init : goal.loop-k-init

@@ -1,12 +1,9 @@
 -- `inside_multi_box` meets its contract. The invariant: the boxes from k on give the answer of all. The measure is the boxes that are left.
-use Prim.Native.Nat.{◌≤◌, ◌+◌, ◌-◌, ◌*◌}
-use native.Mathlib.Omega.{arith}
-use mathlib.Core.Path.{◌≡◌, refl, sym, ◌∙◌}
-use mathlib.Core.Bool.{true, false}
+use Prim.Native.Nat.{◌≤◌, ◌-◌, ◌*◌}
+use mathlib.Core.Path.{◌≡◌}
 use lib.ListN.{drop}
-use borrow.Author.Rules.{rules}
-use Rattle.math.specs.Vectors.{at, points}
-use Rattle.basic.specs.Boxes.{inside_box, in_some_box, inside_multi_box, in_some_box_next, in_some_box_end}
+use Rattle.math.specs.Vectors.{points}
+use Rattle.basic.specs.Boxes.{in_some_box, inside_multi_box}
 use Rattle.basic.proofs.inside_multi_box.Given as goal
 
 abbrev pub invariant-loop-k : goal.invariant-loop-k

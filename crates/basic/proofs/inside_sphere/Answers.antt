@@ -1,6 +1,5 @@
 -- `inside_sphere` meets its contract: the calls promise the parts of the definition.
 use Rattle.basic.specs.Round.{inside_sphere}
-use borrow.Author.Rules.{rules}
 use Rattle.basic.proofs.inside_sphere.Goals as goal
 
 pub returns : goal.returns

@@ -1,6 +1,5 @@
 -- `inside_spherical_shell` meets its contract: the calls promise the parts of the definition.
 use Rattle.basic.specs.Round.{inside_spherical_shell}
-use borrow.Author.Rules.{rules}
 use Rattle.basic.proofs.inside_spherical_shell.Goals as goal
 
 pub returns : goal.returns

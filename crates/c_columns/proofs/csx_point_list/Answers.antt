@@ -1,6 +1,5 @@
 -- `csx_point_list` meets its contract: `point_list` promises the listing and its bytes or the refusal, and the number of that is returned.
 use mathlib.Core.Path.{sym, ◌∙◌}
-use borrow.Author.Rules.{rules}
 use Rattle.column.specs.CallLaws.{listed_refused, listed_bytes}
 use Rattle.c_columns.proofs.csx_point_list.Goals as goal
 

@@ -1,7 +1,6 @@
 -- `asked` meets its contract: `contains` promises the answer, and `Answer::value` its number.
 use mathlib.Core.Path.{ap, ◌∙◌}
 use Rattle.primitives.specs.Questions.{value}
-use borrow.Author.Rules.{rules}
 use Rattle.c_shapes.proofs.asked.Goals as goal
 
 pub returns : goal.returns

@@ -1,6 +1,5 @@
 -- `along` meets its contract: the calls promise its parts.
 use Rattle.closest.specs.Closest.{along}
-use borrow.Author.Rules.{rules}
 use Rattle.closest.proofs.along.Goals as goal
 
 pub returns : goal.returns

@@ -1,6 +1,5 @@
 -- `closest_on_triangle` meets its contract: the calls promise its parts.
 use Rattle.closest.specs.Closest.{closest_on_triangle}
-use borrow.Author.Rules.{rules}
 use Rattle.closest.proofs.closest_on_triangle.Goals as goal
 
 pub returns : goal.returns

@@ -1,6 +1,5 @@
 -- `inner` meets its contract: the test is the definition's.
 use Rattle.closest.specs.Closest.{va, vb, vc, inner}
-use borrow.Author.Rules.{rules}
 use Rattle.closest.proofs.inner.Goals as goal
 
 pub returns-then-denom : goal.returns-then-denom

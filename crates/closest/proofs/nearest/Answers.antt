@@ -1,6 +1,5 @@
 -- `nearest` meets its contract: its tests are the definition's, in their order.
 use Rattle.closest.specs.Closest.{va, vb, vc, nearest}
-use borrow.Author.Rules.{rules}
 use Rattle.closest.proofs.nearest.Goals as goal
 
 pub returns-then-d : goal.returns-then-d

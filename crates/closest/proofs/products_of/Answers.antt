@@ -1,6 +1,5 @@
 -- `products_of` meets its contract: the calls promise its parts.
 use Rattle.closest.specs.Closest.{products_of}
-use borrow.Author.Rules.{rules}
 use Rattle.closest.proofs.products_of.Goals as goal
 
 pub returns : goal.returns

@@ -7,7 +7,6 @@ use Rattle.mesh_questions.specs.Accepted.{asked_passed, asked_refused}
 use Rattle.polyhedron.specs.ListLaws.{length_answers_to, list_passed}
 use Rattle.listing.specs.Listing.{listing_length}
 use Rattle.column.specs.CallLaws.{refused_mesh, refused_room, listed_answers}
-use borrow.Author.Rules.{rules}
 use Rattle.column.proofs.list_answers.Goals as goal
 
 pub returns-in-Refused : goal.returns-in-Refused

@@ -4,7 +4,6 @@ use lib.ListN.{length-take}
 use lib.Seq.{length-take-le}
 use Rattle.text.specs.Lines.{lines_in}
 use Rattle.column.specs.CallLaws.{has, vertices_whole, triangles_whole, points_whole, coords_found, corners_found, ends_found, points_found, few_found, lists_found}
-use borrow.Author.Rules.{rules}
 use Rattle.column.proofs.list_into.Goals as goal
 
 pub overflow_mul-v : goal.overflow_mul-v

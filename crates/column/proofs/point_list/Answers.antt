@@ -2,7 +2,6 @@
 use mathlib.Core.Path.{sym, ◌∙◌}
 use Rattle.column.specs.Column.{judged}
 use Rattle.column.specs.CallLaws.{refused_line}
-use borrow.Author.Rules.{rules}
 use Rattle.column.proofs.point_list.Goals as goal
 
 pub list_good-requires : goal.list_good-requires

@@ -1,6 +1,5 @@
 -- `angle_in_range` meets its contract: its test is the definition's, and `in_span` promises the rest.
 use Rattle.coords.specs.Angles.{angle_in_range}
-use borrow.Author.Rules.{rules}
 use Rattle.coords.proofs.angle_in_range.Goals as goal
 
 pub returns-then-stop-start : goal.returns-then-stop-start

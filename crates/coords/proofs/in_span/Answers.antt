@@ -1,6 +1,5 @@
 -- `in_span` meets its contract: its first test is the definition's, and `rem_euclid` promises the angle from `lo`.
 use Rattle.coords.specs.Angles.{in_span}
-use borrow.Author.Rules.{rules}
 use Rattle.coords.proofs.in_span.Goals as goal
 
 pub returns-then-span-eps : goal.returns-then-span-eps

@@ -1,6 +1,5 @@
 -- `inside_wire` meets its contract: the calls promise the parts of the definition.
 use Rattle.curve.specs.Polylines.{inside_wire}
-use borrow.Author.Rules.{rules}
 use Rattle.curve.proofs.inside_wire.Goals as goal
 
 pub returns : goal.returns

@@ -1,11 +1,7 @@
-use Prim.Native.Nat.{◌≤◌, ◌-◌, ◌*◌}
 use native.Mathlib.Omega.{arith}
-use mathlib.Core.Path.{◌≡◌, sym, ◌∙◌}
+use mathlib.Core.Path.{sym, ◌∙◌}
 use lib.Ieee.{nan_bits, of_bits}
-use lib.ListN.{drop}
-use borrow.Author.Rules.{rules}
-use Rattle.math.specs.Vectors.{points}
-use Rattle.curve.specs.Polylines.{segments, polyline_dist, polyline_dist_point, polyline_dist_segments, segments_next, segments_end}
+use Rattle.curve.specs.Polylines.{polyline_dist_point, polyline_dist_segments, segments_next, segments_end}
 use Rattle.curve.proofs.polyline_dist.Goals as goal
 
 pub returns-then-n-eq1 : goal.returns-then-n-eq1

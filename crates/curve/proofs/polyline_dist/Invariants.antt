@@ -1,13 +1,10 @@
 -- `polyline_dist` meets its contract. The invariant: from point k on, with the least distance so far, the segments give the polyline's
 -- distance. The measure is the points that are left.
 use Prim.Native.Nat.{◌≤◌, ◌-◌, ◌*◌}
-use native.Mathlib.Omega.{arith}
-use mathlib.Core.Path.{◌≡◌, sym, ◌∙◌}
-use lib.Ieee.{nan_bits, of_bits}
+use mathlib.Core.Path.{◌≡◌}
 use lib.ListN.{drop}
-use borrow.Author.Rules.{rules}
 use Rattle.math.specs.Vectors.{points}
-use Rattle.curve.specs.Polylines.{segments, polyline_dist, polyline_dist_point, polyline_dist_segments, segments_next, segments_end}
+use Rattle.curve.specs.Polylines.{segments, polyline_dist}
 use Rattle.curve.proofs.polyline_dist.Given as goal
 
 abbrev pub invariant-loop-k : goal.invariant-loop-k

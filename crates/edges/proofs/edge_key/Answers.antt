@@ -1,5 +1,4 @@
 -- `edge_key` meets its contract: each arm of the test is that of the definition.
-use borrow.Author.Rules.{rules}
 use borrow.Author.Tests.{le-leb, lt-leb}
 use Rattle.edges.specs.Edges.{edge_key}
 use Rattle.edges.proofs.edge_key.Goals as goal

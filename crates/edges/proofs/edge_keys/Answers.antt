@@ -7,7 +7,6 @@ use mathlib.Core.Path.{◌≡◌, sym}
 use mathlib.Core.List.{List, ◌++◌}
 use lib.ListN.{length, take, drop}
 use lib.Seq.{length-take-le}
-use borrow.Author.Rules.{rules}
 use Rattle.keys.specs.Sorting.{sorted, Small}
 use Rattle.keys.specs.SortingTheorems.{length_sorted}
 use Rattle.lent.specs.Over.{over, take_over, drop_over}

@@ -1,9 +1,8 @@
-use Prim.Native.Nat.{◌≤◌, ◌-◌}
+use Prim.Native.Nat.{◌≤◌}
 use native.Mathlib.Omega.{arith}
 use mathlib.Core.Path.{◌∙◌}
 use lib.ListN.{length, get_or, length-take, length-drop}
-use borrow.Author.Rules.{rules}
-use Rattle.edges.proofs.Filling.{Filled, filled_none, filled_all, next_end, filled_next, face_written, no_face_written}
+use Rattle.edges.proofs.Filling.{filled_none, filled_all, next_end, filled_next, face_written, no_face_written}
 use Rattle.edges.proofs.fill_keys.Goals as goal
 use Rattle.edges.proofs.fill_keys.Goals.{In-loop-f, then-start-end, else-start-end}
 
@@ -36,8 +35,8 @@ loop-f-preserved c =
     let more = c.loop-f-test.true in
     let room = c.requires.corners_in_bounds in
     filled_next filled more _ room (elim c.if-start-end.branch [
-      then-start-end w ↦ face_written filled more _ _ w.if-start-end.true w.keys_from.ensures w.work-is
-    | else-start-end w ↦ w.work-is ∙ no_face_written filled more w.if-start-end.false
+      | then-start-end w ↦ face_written filled more _ _ w.if-start-end.true w.keys_from.ensures w.work-is
+      | else-start-end w ↦ w.work-is ∙ no_face_written filled more w.if-start-end.false
     ])
 
 pub returns : goal.returns

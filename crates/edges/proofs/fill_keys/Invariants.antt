@@ -1,12 +1,8 @@
 -- `fill_keys` meets its contract. The invariant (`Filled`): what was written and the keys of the faces that are left are the keys of all faces,
 -- and the ends that are left fit. A turn writes one face's keys on, or none for a face with no corner. The measure is the faces that are left.
-use Prim.Native.Nat.{◌≤◌, ◌-◌}
-use native.Mathlib.Omega.{arith}
-use mathlib.Core.Path.{◌∙◌}
-use mathlib.Core.Logic.{⊎_elim}
-use lib.ListN.{length, get_or, length-take, length-drop}
-use borrow.Author.Rules.{rules}
-use Rattle.edges.proofs.Filling.{Filled, filled_none, filled_all, next_end, filled_next, face_written, no_face_written}
+use Prim.Native.Nat.{◌-◌}
+use lib.ListN.{length}
+use Rattle.edges.proofs.Filling.{Filled}
 use Rattle.edges.proofs.fill_keys.Given as goal
 
 abbrev pub invariant-loop-f : goal.invariant-loop-f

@@ -1,7 +1,5 @@
-use Prim.Native.Nat.{◌-◌}
-use mathlib.Core.Path.{◌≡◌, ◌∙◌}
-use lib.ListN.{length, drop, drop_of_length-le}
-use borrow.Author.Rules.{rules}
+use mathlib.Core.Path.{◌∙◌}
+use lib.ListN.{drop_of_length-le}
 use Rattle.edges.specs.Pairs.{in_pairs}
 use Rattle.edges.proofs.Pairing.{pair_at, no_pair_at}
 use Rattle.edges.proofs.in_pairs.Goals as goal

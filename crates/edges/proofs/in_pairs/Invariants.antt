@@ -1,11 +1,9 @@
 -- `in_pairs` meets its contract. The invariant: the keys from i on stand in pairs if all do. A turn takes one pair off, or finds that there is none.
 -- The measure is what is left of the keys.
 use Prim.Native.Nat.{◌-◌}
-use mathlib.Core.Path.{◌≡◌, ◌∙◌}
-use lib.ListN.{length, drop, drop_of_length-le}
-use borrow.Author.Rules.{rules}
+use mathlib.Core.Path.{◌≡◌}
+use lib.ListN.{length, drop}
 use Rattle.edges.specs.Pairs.{in_pairs}
-use Rattle.edges.proofs.Pairing.{pair_at, no_pair_at}
 use Rattle.edges.proofs.in_pairs.Given as goal
 
 abbrev pub invariant-loop-i : goal.invariant-loop-i

@@ -1,5 +1,4 @@
 -- `is_closed` meets its contract: the tests are the definition's.
-use borrow.Author.Rules.{rules}
 use borrow.Author.Tests.{lt-ltb, le-ltb}
 use Rattle.edges.specs.Pairs.{closed_keys}
 use Rattle.edges.proofs.is_closed.Goals as goal

@@ -2,7 +2,6 @@
 use native.Mathlib.Omega.{arith}
 use mathlib.Core.Path.{sym}
 use lib.Seq.{length-take-le}
-use borrow.Author.Rules.{rules}
 use Rattle.edges.specs.PairLaws.{closed_of}
 use Rattle.edges.proofs.keys_closed.Goals as goal
 

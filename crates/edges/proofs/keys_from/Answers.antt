@@ -1,10 +1,9 @@
-use Prim.Native.Nat.{◌+◌, ◌-◌, ◌≤◌}
+use Prim.Native.Nat.{◌+◌}
 use native.Mathlib.Omega.{arith}
 use mathlib.Core.Path.{◌≡◌, refl, sym, ◌∙◌}
-use lib.ListN.{length, get_or, take, length-set, get_or-eq_default}
+use lib.ListN.{get_or, length-set, get_or-eq_default}
 use lib.Seq.{take_all}
-use borrow.Author.Rules.{rules}
-use Rattle.lent.specs.Over.{over, over_nothing}
+use Rattle.lent.specs.Over.{over_nothing}
 use Rattle.edges.specs.Edges.{keys_from}
 use Rattle.edges.specs.EdgeLaws.{length_keys_from}
 use Rattle.edges.proofs.Filling.{get_d_within, key_stored}
@@ -17,8 +16,8 @@ next_read c =
     let args = c.args in
     let corners = args.corners.now in
     elim c.if-i-n.branch [
-      then-i-n w ↦ w.next-is ∙ get_d_within corners _ 0 args.first w.if-i-n.true
-    | else-i-n w ↦ w.next-is ∙ sym (get_or-eq_default corners args.first w.if-i-n.false)
+      | then-i-n w ↦ w.next-is ∙ get_d_within corners _ 0 args.first w.if-i-n.true
+      | else-i-n w ↦ w.next-is ∙ sym (get_or-eq_default corners args.first w.if-i-n.false)
     ]
 
 pub loop-i-init : goal.loop-i-init

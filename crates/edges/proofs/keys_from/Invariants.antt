@@ -1,16 +1,10 @@
 -- `keys_from` meets its contract. The invariant: the first i keys are written over the front of the buffer. The key at i is that of the edge to the
 -- next corner, which is `first` behind the last (`keys_from_at`). The measure is the corners that are left.
-use Prim.Native.Nat.{◌+◌, ◌-◌, ◌≤◌}
-use native.Mathlib.Omega.{arith}
-use mathlib.Core.Path.{◌≡◌, refl, sym, ◌∙◌}
-use mathlib.Core.Logic.{⊎_elim}
-use lib.ListN.{length, get_or, take, length-set, get_or-eq_default}
-use lib.Seq.{take_all}
-use borrow.Author.Rules.{rules}
-use Rattle.lent.specs.Over.{over, over_nothing}
+use Prim.Native.Nat.{◌-◌, ◌≤◌}
+use mathlib.Core.Path.{◌≡◌}
+use lib.ListN.{length, take}
+use Rattle.lent.specs.Over.{over}
 use Rattle.edges.specs.Edges.{keys_from}
-use Rattle.edges.specs.EdgeLaws.{length_keys_from}
-use Rattle.edges.proofs.Filling.{get_d_within, key_stored}
 use Rattle.edges.proofs.keys_from.Given as goal
 
 abbrev pub invariant-loop-i : goal.invariant-loop-i

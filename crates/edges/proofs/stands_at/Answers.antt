@@ -1,6 +1,5 @@
 -- `stands_at` meets its contract: from place i on the keys begin with the one that is read, or there are none.
 use Prim.Native.Nat.{ℕ}
-use borrow.Author.Rules.{rules}
 use borrow.Author.Tests.{le-ltb}
 use lib.ListN.{drop_of_length-le}
 use lib.Seq.{drop-cons}

@@ -1,10 +1,8 @@
-use Prim.Native.Nat.{◌≤◌, ◌-◌}
+use Prim.Native.Nat.{◌≤◌}
 use native.Mathlib.Omega.{arith}
 use mathlib.Core.Path.{◌≡◌, sym, ◌∙◌}
 use mathlib.Core.List.{[]}
 use lib.ListN.{length, get_or, drop, drop_of_length-le}
-use borrow.Author.Rules.{rules}
-use Rattle.math.specs.Boxes.{empty}
 use Rattle.mesh_questions.specs.Accepted.{fanned}
 use Rattle.mesh.specs.Triangles.{triangle}
 use Rattle.mesh.specs.Boxes.{triangle_center}

@@ -1,5 +1,4 @@
 -- `edge` meets its contract: its cases are those of the definition.
-use borrow.Author.Rules.{rules}
 use Rattle.extent.specs.Extent.{edge}
 use Rattle.extent.proofs.edge.Goals as goal
 

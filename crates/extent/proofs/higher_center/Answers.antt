@@ -1,5 +1,4 @@
 -- `higher_center` meets its contract: its cases are those of the definition.
-use borrow.Author.Rules.{rules}
 use Rattle.extent.specs.Extent.{higher_center}
 use Rattle.extent.proofs.higher_center.Goals as goal
 

@@ -1,6 +1,5 @@
 -- `inner_box` meets its contract: the calls promise the edges of the joined box, and the coordinates are lent as numbers of the format f64.
 use native.Mathlib.Omega.{arith}
-use borrow.Author.Rules.{rules}
 use Rattle.mesh.specs.Mesh.{mesh}
 use Rattle.extent.specs.Extent.{joined_box}
 use Rattle.extent.specs.ExtentLaws.{joined_halves}

@@ -1,5 +1,4 @@
 -- `joined_edge` meets its contract: its cases are those of the definition.
-use borrow.Author.Rules.{rules}
 use Rattle.extent.specs.Extent.{joined_edge}
 use Rattle.extent.proofs.joined_edge.Goals as goal
 

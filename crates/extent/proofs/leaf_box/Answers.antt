@@ -1,11 +1,10 @@
-use Prim.Native.Nat.{◌≤◌, ◌-◌}
+use Prim.Native.Nat.{◌≤◌}
 use native.Mathlib.Omega.{arith}
 use mathlib.Core.Path.{◌≡◌, sym, ◌∙◌}
 use mathlib.Core.List.{[]}
 use lib.ListN.{length, drop, drop_of_length-le}
-use borrow.Author.Rules.{rules}
 use Rattle.mesh.specs.Mesh.{mesh}
-use Rattle.builder.specs.Builder.{join_all, node_box}
+use Rattle.builder.specs.Builder.{join_all}
 use Rattle.extent.specs.ExtentLoops.{node_box_first, join_all_next}
 use Rattle.extent.proofs.leaf_box.Goals as goal
 

@@ -1,14 +1,10 @@
 -- `leaf_box` meets its contract. The invariant: the join so far, with the own boxes of the items from j on, is the node's box. The measure is
 -- the items that are left.
 use Prim.Native.Nat.{◌≤◌, ◌-◌}
-use native.Mathlib.Omega.{arith}
-use mathlib.Core.Path.{◌≡◌, sym, ◌∙◌}
-use mathlib.Core.List.{[]}
-use lib.ListN.{length, drop, drop_of_length-le}
-use borrow.Author.Rules.{rules}
+use mathlib.Core.Path.{◌≡◌}
+use lib.ListN.{length, drop}
 use Rattle.mesh.specs.Mesh.{mesh}
 use Rattle.builder.specs.Builder.{join_all, node_box}
-use Rattle.extent.specs.ExtentLoops.{node_box_first, join_all_next}
 use Rattle.extent.proofs.leaf_box.Given as goal
 
 abbrev pub invariant-loop-j : goal.invariant-loop-j

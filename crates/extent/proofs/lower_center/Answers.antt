@@ -1,5 +1,4 @@
 -- `lower_center` meets its contract: its cases are those of the definition.
-use borrow.Author.Rules.{rules}
 use Rattle.extent.specs.Extent.{lower_center}
 use Rattle.extent.proofs.lower_center.Goals as goal
 

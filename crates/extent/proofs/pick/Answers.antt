@@ -1,5 +1,4 @@
 -- `pick` meets its contract: its cases are those of the definition.
-use borrow.Author.Rules.{rules}
 use Rattle.extent.specs.Extent.{pick}
 use Rattle.extent.proofs.pick.Goals as goal
 

@@ -1,5 +1,4 @@
 -- `split_of` meets its contract: the axis on which the box around the centres is widest is that of the node, whatever the items' order.
-use borrow.Author.Rules.{rules}
 use Rattle.mesh.specs.Mesh.{mesh}
 use Rattle.extent.specs.ExtentLaws.{centers_axis}
 use Rattle.extent.proofs.split_of.Goals as goal

@@ -1,5 +1,4 @@
 -- `unlike` meets its contract: it is the test of the definition.
-use borrow.Author.Rules.{rules}
 use Rattle.extent.specs.Extent.{unlike}
 use Rattle.extent.proofs.unlike.Goals as goal
 

@@ -1,5 +1,4 @@
 -- `with_center` meets its contract: the calls promise the parts of the definition.
-use borrow.Author.Rules.{rules}
 use Rattle.extent.specs.Extent.{with_center}
 use Rattle.extent.proofs.with_center.Goals as goal
 

@@ -3,8 +3,7 @@ use native.Mathlib.Omega.{arith}
 use mathlib.Core.Path.{◌≡◌, sym, ap}
 use mathlib.Core.List.{[]}
 use lib.ListN.{length, drop, drop_of_length-le}
-use borrow.Author.Rules.{rules}
-use Rattle.keys.specs.Sorting.{sorted_by, sorted}
+use Rattle.keys.specs.Sorting.{sorted_by}
 use Rattle.mesh.specs.Mesh.{mesh}
 use Rattle.extent.specs.Extent.{own_edge, no_zero, first_zero}
 use Rattle.extent.specs.ExtentLoops.{first_zero_next}

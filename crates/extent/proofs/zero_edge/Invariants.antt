@@ -1,15 +1,11 @@
 -- `zero_edge` meets its contract. The loop goes from the last item to the first. The invariant: what was found is the first zero of the
 -- items from j on, sorted; one item more is inserted there. The measure is j.
-use Prim.Native.Nat.{◌+◌, ◌-◌, ◌≤◌}
-use native.Mathlib.Omega.{arith}
-use mathlib.Core.Path.{◌≡◌, sym, ap}
-use mathlib.Core.List.{[]}
-use lib.ListN.{length, drop, drop_of_length-le}
-use borrow.Author.Rules.{rules}
-use Rattle.keys.specs.Sorting.{sorted_by, sorted}
+use Prim.Native.Nat.{◌≤◌}
+use mathlib.Core.Path.{◌≡◌}
+use lib.ListN.{length, drop}
+use Rattle.keys.specs.Sorting.{sorted}
 use Rattle.mesh.specs.Mesh.{mesh}
-use Rattle.extent.specs.Extent.{own_edge, no_zero, first_zero}
-use Rattle.extent.specs.ExtentLoops.{first_zero_next}
+use Rattle.extent.specs.Extent.{own_edge, first_zero}
 use Rattle.extent.proofs.zero_edge.Given as goal
 
 abbrev pub invariant-loop-j : goal.invariant-loop-j

@@ -1,11 +1,8 @@
-use Prim.Native.Nat.{◌-◌, ◌≤◌}
 use native.Mathlib.Omega.{arith}
-use mathlib.Core.Path.{◌≡◌, refl, sym, ◌∙◌}
+use mathlib.Core.Path.{refl, sym, ◌∙◌}
 use mathlib.Core.Bool.{◌&&◌}
-use lib.ListN.{length, drop, get_or, drop_of_length-le}
+use lib.ListN.{get_or, drop_of_length-le}
 use lib.Dec.{leb}
-use borrow.Author.Rules.{rules}
-use borrow.Author.Tests.{not-true, not-false}
 use Rattle.fields.specs.Fields.{all_digits}
 use Rattle.fields.specs.FieldLaws.{all_digits_next}
 use Rattle.fields.proofs.all_digits.Goals as goal

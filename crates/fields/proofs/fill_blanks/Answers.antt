@@ -1,9 +1,7 @@
-use Prim.Native.Nat.{◌-◌, ◌≤◌}
 use native.Mathlib.Omega.{arith}
 use mathlib.Core.Path.{◌≡◌, refl, sym, ◌∙◌}
-use lib.ListN.{length, replicate, length-set, length-replicate}
-use borrow.Author.Rules.{rules}
-use Rattle.lent.specs.Over.{over, over_nothing, over_fill, over_whole}
+use lib.ListN.{length, length-set, length-replicate}
+use Rattle.lent.specs.Over.{over_nothing, over_fill, over_whole}
 use Rattle.fields.specs.Fields.{blank}
 use Rattle.fields.proofs.fill_blanks.Goals as goal
 

@@ -1,10 +1,8 @@
 -- `fill_blanks` meets its contract. The invariant: the first i bytes are blanks. The measure is what is left.
 use Prim.Native.Nat.{◌-◌, ◌≤◌}
-use native.Mathlib.Omega.{arith}
-use mathlib.Core.Path.{◌≡◌, refl, sym, ◌∙◌}
-use lib.ListN.{length, replicate, length-set, length-replicate}
-use borrow.Author.Rules.{rules}
-use Rattle.lent.specs.Over.{over, over_nothing, over_fill, over_whole}
+use mathlib.Core.Path.{◌≡◌}
+use lib.ListN.{length, replicate}
+use Rattle.lent.specs.Over.{over}
 use Rattle.fields.specs.Fields.{blank}
 use Rattle.fields.proofs.fill_blanks.Given as goal
 

@@ -1,7 +1,6 @@
 -- `is_whole` meets its contract.
 use native.Mathlib.Omega.{arith}
 use lib.ListN.{length}
-use borrow.Author.Rules.{rules}
 use borrow.Author.Tests.{lt-leb, le-leb}
 use Rattle.fields.specs.Fields.{is_whole}
 use Rattle.fields.proofs.is_whole.Goals as goal

@@ -1,8 +1,6 @@
 -- `magnitude_of` meets its contract.
 use mathlib.Core.Path.{◌≡◌, sym, ◌∙◌}
 use mathlib.Core.Bool.{true, false}
-use borrow.Author.Rules.{rules}
-use borrow.Author.Tests.{not-true, not-false}
 use Rattle.fields.specs.Fields.{is_whole, magnitude_of}
 use Rattle.fields.specs.FieldLaws.{whole_digits}
 use Rattle.fields.proofs.magnitude_of.Goals as goal

@@ -1,12 +1,8 @@
 -- `skip_blanks` meets its contract. The invariant: without the first i bytes, which are blanks, the field is the same without blanks. The measure is what is left.
 use Prim.Native.Nat.{◌-◌, ◌≤◌}
-use native.Mathlib.Omega.{arith}
-use mathlib.Core.Path.{◌≡◌, refl, sym, ◌∙◌}
-use lib.ListN.{length, drop, drop_of_length-le}
-use borrow.Author.Rules.{rules}
-use borrow.Author.Tests.{eq-eqb, ne_eqb}
+use mathlib.Core.Path.{◌≡◌}
+use lib.ListN.{length, drop}
 use Rattle.fields.specs.Fields.{without_blanks}
-use Rattle.fields.specs.FieldLaws.{without_blanks_next}
 use Rattle.fields.proofs.skip_blanks.Given as goal
 
 abbrev pub invariant-loop-i : goal.invariant-loop-i

@@ -1,12 +1,10 @@
-use Prim.Native.Nat.{◌+◌, ◌-◌, ◌*◌, ◌^◌, ◌≤◌, ◌<◌}
+use Prim.Native.Nat.{◌+◌, ◌*◌, ◌^◌, ◌≤◌}
 use native.Mathlib.Omega.{arith}
 use native.Mathlib.Nat.{pow-suc, pow-le-pow_right}
 use native.Mathlib.Numerals.{add-one}
 use mathlib.Core.Path.{◌≡◌, refl, sym, ◌∙◌}
-use mathlib.Core.Bool.{true}
-use lib.ListN.{length, drop, drop_of_length-le}
-use borrow.Author.Rules.{rules}
-use Rattle.fields.specs.Fields.{all_digits, value_from}
+use lib.ListN.{drop_of_length-le}
+use Rattle.fields.specs.Fields.{value_from}
 use Rattle.fields.specs.FieldLaws.{value_from_next, next_digit}
 use Rattle.fields.proofs.value_of.Goals as goal
 

@@ -1,14 +1,9 @@
 -- `value_of` meets its contract. The invariant: what is read, with the digits from i on behind it, is the number; it has at most i digits. The measure is what is left.
-use Prim.Native.Nat.{◌+◌, ◌-◌, ◌*◌, ◌^◌, ◌≤◌, ◌<◌}
-use native.Mathlib.Omega.{arith}
-use native.Mathlib.Nat.{pow-suc, pow-le-pow_right}
-use native.Mathlib.Numerals.{add-one}
-use mathlib.Core.Path.{◌≡◌, refl, sym, ◌∙◌}
+use Prim.Native.Nat.{◌-◌, ◌^◌, ◌≤◌, ◌<◌}
+use mathlib.Core.Path.{◌≡◌}
 use mathlib.Core.Bool.{true}
-use lib.ListN.{length, drop, drop_of_length-le}
-use borrow.Author.Rules.{rules}
+use lib.ListN.{length, drop}
 use Rattle.fields.specs.Fields.{all_digits, value_from}
-use Rattle.fields.specs.FieldLaws.{value_from_next, next_digit}
 use Rattle.fields.proofs.value_of.Given as goal
 
 abbrev pub invariant-loop-i : goal.invariant-loop-i

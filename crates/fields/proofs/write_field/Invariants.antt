@@ -1,15 +1,10 @@
 -- `write_field` meets its contract. The invariant: what is left of the number, in front of the bytes from i on, is the field. The measure is i.
-use Prim.Native.Nat.{◌+◌, ◌-◌, ◌/◌, ◌%◌, ◌≤◌}
-use native.Mathlib.Omega.{arith}
-use mathlib.Core.Path.{◌≡◌, refl, sym, ◌∙◌}
+use Prim.Native.Nat.{◌≤◌}
+use mathlib.Core.Path.{◌≡◌}
 use mathlib.Core.Bool.{false}
-use mathlib.Core.List.{◌++◌, append-nil}
-use lib.ListN.{length, take, drop, set, replicate, length-append, length-take, length-drop, length-set, length-replicate}
-use lib.Seq.{drop-length}
-use borrow.Author.Rules.{rules}
-use borrow.Author.Tests.{eq-eqb, ne_eqb}
-use Rattle.fields.specs.Fields.{blank, field_text}
-use Rattle.fields.specs.FieldLaws.{before_blanks, field_text_next}
+use mathlib.Core.List.{◌++◌}
+use lib.ListN.{length, drop}
+use Rattle.fields.specs.Fields.{field_text}
 use Rattle.fields.proofs.write_field.Given as goal
 
 abbrev pub invariant-loop-i : goal.invariant-loop-i

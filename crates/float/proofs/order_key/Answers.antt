@@ -1,7 +1,6 @@
 -- `float::order_key` meets its contract. A NaN gives the largest u64. Any other value gives the key of its pattern, by the case of the definition that the test found.
 use Prim.Native.Nat.{◌^◌}
 use native.Mathlib.Omega.{arith}
-use borrow.Author.Rules.{rules}
 use borrow.Author.Tests.{le-leb, lt-leb}
 use lib.Ieee.{binary64, fits, to_bits}
 use lib.Ieee.Bits.{to_bits-lt}

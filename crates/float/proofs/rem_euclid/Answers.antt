@@ -1,5 +1,4 @@
 -- `float::rem_euclid` meets its contract: the 0.0 of the code is the definition's zero, the test picks as the definition does, and `abs` returns |b|.
-use borrow.Author.Rules.{rules}
 use mathlib.Core.Path.{◌≡◌, refl}
 use lib.Ieee.{binary64, of_bits}
 use Rattle.float.specs.Rules.{zero64, rem_euclid}

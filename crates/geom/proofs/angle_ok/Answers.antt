@@ -1,6 +1,5 @@
 -- `angle_ok` meets its contract: the calls promise the parts of the definition.
 use Rattle.geom.specs.Tolerance.{angle_ok}
-use borrow.Author.Rules.{rules}
 use Rattle.geom.proofs.angle_ok.Goals as goal
 
 pub returns : goal.returns

@@ -1,6 +1,5 @@
 -- `between` meets its contract: the calls promise the parts of the definition.
 use Rattle.geom.specs.Tolerance.{between}
-use borrow.Author.Rules.{rules}
 use Rattle.geom.proofs.between.Goals as goal
 
 pub returns : goal.returns

@@ -1,6 +1,5 @@
 -- `dist_point_segment_2d` meets its contract: the calls promise the parts of the definition.
 use Rattle.geom.specs.Segments.{dist_point_segment2d}
-use borrow.Author.Rules.{rules}
 use Rattle.geom.proofs.dist_point_segment_2d.Goals as goal
 
 pub returns : goal.returns

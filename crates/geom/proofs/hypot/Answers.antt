@@ -1,6 +1,5 @@
 -- `hypot` meets its contract: the calls promise the parts of the definition.
 use Rattle.geom.specs.Segments.{hypot}
-use borrow.Author.Rules.{rules}
 use Rattle.geom.proofs.hypot.Goals as goal
 
 pub returns : goal.returns

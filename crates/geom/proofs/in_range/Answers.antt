@@ -1,6 +1,5 @@
 -- `in_range` meets its contract: its test is the definition's, and `between` promises the rest.
 use Rattle.geom.specs.Tolerance.{in_range}
-use borrow.Author.Rules.{rules}
 use Rattle.geom.proofs.in_range.Goals as goal
 
 pub returns-then-a-b : goal.returns-then-a-b

@@ -1,6 +1,5 @@
 -- `parameter` meets its contract: its test is the definition's, and `clamp` promises the rest.
 use Rattle.geom.specs.Segments.{parameter}
-use borrow.Author.Rules.{rules}
 use Rattle.geom.proofs.parameter.Goals as goal
 
 pub returns-then-l2 : goal.returns-then-l2

@@ -1,11 +1,11 @@
-use Prim.Native.Nat.{◌≤◌, ◌-◌, ◌*◌, ◌/◌}
+use Prim.Native.Nat.{◌-◌, ◌/◌}
 use native.Mathlib.Omega.{arith}
 use mathlib.Core.Path.{◌≡◌, sym, ◌∙◌}
 use mathlib.Core.Bool.{true, false}
-use lib.ListN.{length, drop}
+use lib.ListN.{length}
 use lib.Ieee.{le}
 use borrow.Author.Rules.{rules}
-use Rattle.geom.specs.Polygons.{points2, points2_short, vertex, around, around_on, around_off, around_end, in_polygon, point_in_polygon, point_in_polygon_around}
+use Rattle.geom.specs.Polygons.{points2_short, vertex, around_on, around_off, around_end, in_polygon, point_in_polygon, point_in_polygon_around}
 use Rattle.geom.specs.Segments.{dist_point_segment2d}
 use Rattle.geom.proofs.point_in_polygon.Goals as goal
 

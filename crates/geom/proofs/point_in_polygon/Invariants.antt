@@ -1,14 +1,9 @@
 -- `point_in_polygon` meets its contract. The invariant: from vertex k on, with the vertex before it and the answer so far, the walk
 -- round the polygon gives the polygon's answer. The measure is the vertices that are left.
-use Prim.Native.Nat.{◌≤◌, ◌-◌, ◌*◌, ◌/◌}
-use native.Mathlib.Omega.{arith}
-use mathlib.Core.Path.{◌≡◌, sym, ◌∙◌}
-use mathlib.Core.Bool.{true, false}
-use lib.ListN.{length, drop}
-use lib.Ieee.{le}
-use borrow.Author.Rules.{rules}
-use Rattle.geom.specs.Polygons.{points2, points2_short, vertex, around, around_on, around_off, around_end, in_polygon, point_in_polygon, point_in_polygon_around}
-use Rattle.geom.specs.Segments.{dist_point_segment2d}
+use Prim.Native.Nat.{◌≤◌, ◌-◌, ◌*◌}
+use mathlib.Core.Path.{◌≡◌}
+use lib.ListN.{drop}
+use Rattle.geom.specs.Polygons.{points2, around, point_in_polygon}
 use Rattle.geom.proofs.point_in_polygon.Given as goal
 
 abbrev pub invariant-loop-k : goal.invariant-loop-k

@@ -1,13 +1,9 @@
 -- `scale` meets its contract. The invariant: from place i on, with the largest magnitude so far, the list gives its largest magnitude.
 -- The measure is what is left of the list.
-use Prim.Native.Nat.{ℕ, ◌≤◌, ◌-◌}
-use native.Mathlib.Omega.{arith}
-use mathlib.Core.Path.{sym, ◌≡◌, refl, ap, ◌∙◌}
-use mathlib.Core.List.{[]}
+use Prim.Native.Nat.{◌≤◌, ◌-◌}
+use mathlib.Core.Path.{◌≡◌}
 use lib.ListN.{length, drop}
-use lib.Seq.{drop-length}
-use borrow.Author.Rules.{rules}
-use Rattle.geom.specs.Tolerance.{scale, scale_from, scale_from_next}
+use Rattle.geom.specs.Tolerance.{scale, scale_from}
 use Rattle.geom.proofs.scale.Given as goal
 
 abbrev pub invariant-loop-i : goal.invariant-loop-i

@@ -1,6 +1,5 @@
 -- `tol` meets its contract: the calls promise the parts of the definition.
 use Rattle.geom.specs.Tolerance.{tol}
-use borrow.Author.Rules.{rules}
 use Rattle.geom.proofs.tol.Goals as goal
 
 pub returns : goal.returns

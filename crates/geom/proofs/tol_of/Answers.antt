@@ -1,6 +1,5 @@
 -- `tol_of` meets its contract: the calls promise the parts of the definition.
 use Rattle.geom.specs.Tolerance.{tol_of}
-use borrow.Author.Rules.{rules}
 use Rattle.geom.proofs.tol_of.Goals as goal
 
 pub returns : goal.returns

@@ -1,5 +1,4 @@
 -- `vertex` meets its contract: it reads the two numbers of the definition.
-use borrow.Author.Rules.{rules}
 use mathlib.Core.Path.{refl}
 use Rattle.geom.specs.Polygons.{vertex}
 use Rattle.geom.proofs.vertex.Goals as goal

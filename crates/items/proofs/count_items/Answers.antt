@@ -1,9 +1,8 @@
-use Prim.Native.Nat.{ℕ, ◌+◌, ◌≤◌, ◌<◌, ◌-◌}
+use Prim.Native.Nat.{◌+◌}
 use native.Mathlib.Omega.{arith}
 use mathlib.Core.Path.{◌≡◌, refl, ◌∙◌}
-use lib.ListN.{length, get_or, take, drop, length-set, length-take}
+use lib.ListN.{get_or, take, length-set, length-take}
 use lib.Seq.{drop-set-lt, take_all}
-use borrow.Author.Rules.{rules}
 use Rattle.keys.specs.Sorting.{count}
 use Rattle.items.specs.Counting.{count_le, counted_in, counted_out}
 use Rattle.items.proofs.count_items.Goals as goal
@@ -26,20 +25,20 @@ loop-j-preserved c =
     let j = c.loop-j.j in
     let n = c.args.n in
     elim c.if-item-n.branch [
-      then-item-n w ↦
-        rw w.work-is (
-          omega arith,
-          length-set work (get_or items j 0) (get_or work (get_or items j 0) 0 + 1) ∙ c.loop-j.invariant.1,
-          counted_in items work n j (omega arith) c.loop-j.invariant.2 w.if-item-n.true (omega arith),
-          drop-set-lt n work (get_or items j 0) (get_or work (get_or items j 0) 0 + 1) w.if-item-n.true ∙ c.loop-j.invariant.3,
-        )
-    | else-item-n w ↦
-        rw w.work-is (
-          omega arith,
-          c.loop-j.invariant.1,
-          counted_out items work n j (omega arith) c.loop-j.invariant.2 w.if-item-n.false,
-          c.loop-j.invariant.3,
-        )
+      | then-item-n w ↦
+          rw w.work-is (
+            omega arith,
+            length-set work (get_or items j 0) (get_or work (get_or items j 0) 0 + 1) ∙ c.loop-j.invariant.1,
+            counted_in items work n j (omega arith) c.loop-j.invariant.2 w.if-item-n.true (omega arith),
+            drop-set-lt n work (get_or items j 0) (get_or work (get_or items j 0) 0 + 1) w.if-item-n.true ∙ c.loop-j.invariant.3,
+          )
+      | else-item-n w ↦
+          rw w.work-is (
+            omega arith,
+            c.loop-j.invariant.1,
+            counted_out items work n j (omega arith) c.loop-j.invariant.2 w.if-item-n.false,
+            c.loop-j.invariant.3,
+          )
     ]
 
 pub shape_of-work : goal.shape_of-work

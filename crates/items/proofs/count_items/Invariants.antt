@@ -1,14 +1,9 @@
 -- `count_items` meets its contract. The invariant: the first n places hold how often each number stands among the first j items, and the rest
 -- is as it was. The measure is the items that are left.
-use Prim.Native.Nat.{ℕ, ◌+◌, ◌≤◌, ◌<◌, ◌-◌}
-use native.Mathlib.Omega.{arith}
-use mathlib.Core.Path.{◌≡◌, refl, ◌∙◌}
-use mathlib.Core.Logic.{⊎_elim}
-use lib.ListN.{length, get_or, take, drop, length-set, length-take}
-use lib.Seq.{drop-set-lt, take_all}
-use borrow.Author.Rules.{rules}
+use Prim.Native.Nat.{ℕ, ◌≤◌, ◌<◌, ◌-◌}
+use mathlib.Core.Path.{◌≡◌}
+use lib.ListN.{length, get_or, take, drop}
 use Rattle.keys.specs.Sorting.{count}
-use Rattle.items.specs.Counting.{count_le, counted_in, counted_out}
 use Rattle.items.proofs.count_items.Given as goal
 
 abbrev pub invariant-loop-j : goal.invariant-loop-j

@@ -1,9 +1,7 @@
-use Prim.Native.Nat.{◌≤◌, ◌-◌}
 use native.Mathlib.Omega.{arith}
 use mathlib.Core.Path.{◌≡◌, refl, sym, ◌∙◌}
-use lib.ListN.{length, replicate, length-set}
-use borrow.Author.Rules.{rules}
-use Rattle.lent.specs.Over.{over, over_nothing, over_fill}
+use lib.ListN.{length-set}
+use Rattle.lent.specs.Over.{over_nothing, over_fill}
 use Rattle.lent.proofs.clear.Goals as goal
 
 pub loop-i-init : goal.loop-i-init

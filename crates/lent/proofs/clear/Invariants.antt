@@ -1,10 +1,8 @@
 -- `clear` meets its contract. The invariant: the first i places are 0 and the rest is as it was. The measure is the places that are left.
 use Prim.Native.Nat.{◌≤◌, ◌-◌}
-use native.Mathlib.Omega.{arith}
-use mathlib.Core.Path.{◌≡◌, refl, sym, ◌∙◌}
-use lib.ListN.{length, replicate, length-set}
-use borrow.Author.Rules.{rules}
-use Rattle.lent.specs.Over.{over, over_nothing, over_fill}
+use mathlib.Core.Path.{◌≡◌}
+use lib.ListN.{length, replicate}
+use Rattle.lent.specs.Over.{over}
 use Rattle.lent.proofs.clear.Given as goal
 
 abbrev pub invariant-loop-i : goal.invariant-loop-i

@@ -4,7 +4,6 @@ use lib.ListN.{length-take}
 use Rattle.lent.specs.Over.{over}
 use Rattle.listing.specs.Listing.{header}
 use Rattle.listing.specs.ListingLaws.{length_line}
-use borrow.Author.Rules.{rules}
 use Rattle.listing.proofs.write_header.Goals as goal
 
 pub slice_bounds-write_line-end-2 : goal.slice_bounds-write_line-end-2

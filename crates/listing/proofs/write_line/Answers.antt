@@ -8,7 +8,6 @@ use lib.ListN.{length, take, drop, length-append, length-take, length-drop}
 use lib.Seq.{length-take-le}
 use Rattle.fields.specs.Fields.{field_text}
 use Rattle.listing.specs.ListingLaws.{length_field, length_line, line_written}
-use borrow.Author.Rules.{rules}
 use Rattle.listing.proofs.write_line.Goals as goal
 
 pub slice_bounds-write_field-end-2 : goal.slice_bounds-write_field-end-2

@@ -6,7 +6,6 @@ use lib.ListN.{length}
 use Rattle.lent.specs.Over.{length_over, over_on}
 use Rattle.listing.specs.Listing.{header, rows, listing_text, listing_length}
 use Rattle.listing.specs.ListingLaws.{length_line, length_rows}
-use borrow.Author.Rules.{rules}
 use Rattle.listing.proofs.write_listing.Goals as goal
 
 pub write_header-requires : goal.write_header-requires

@@ -1,10 +1,9 @@
-use Prim.Native.Nat.{◌+◌, ◌-◌, ◌*◌, ◌≤◌}
+use Prim.Native.Nat.{◌+◌, ◌-◌, ◌*◌}
 use native.Mathlib.Omega.{arith}
 use mathlib.Core.Path.{◌≡◌, refl, sym}
-use lib.ListN.{length, take, length-take, length-drop}
+use lib.ListN.{take, length-take, length-drop}
 use lib.Seq.{take_all, length-take-le}
-use borrow.Author.Rules.{rules}
-use Rattle.lent.specs.Over.{over, over_nothing, length_over}
+use Rattle.lent.specs.Over.{over_nothing, length_over}
 use Rattle.listing.specs.Listing as Listing
 use Rattle.listing.specs.ListingLaws.{length_rows, rows_written}
 use Rattle.listing.proofs.write_rows.Goals as goal

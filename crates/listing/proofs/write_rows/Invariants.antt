@@ -1,13 +1,9 @@
 -- `write_rows` meets its contract: after i rounds the first i rows stand in front.
-use Prim.Native.Nat.{◌+◌, ◌-◌, ◌*◌, ◌≤◌}
-use native.Mathlib.Omega.{arith}
-use mathlib.Core.Path.{◌≡◌, refl, sym}
-use lib.ListN.{length, take, length-take, length-drop}
-use lib.Seq.{take_all, length-take-le}
-use borrow.Author.Rules.{rules}
-use Rattle.lent.specs.Over.{over, over_nothing, length_over}
+use Prim.Native.Nat.{◌-◌, ◌≤◌}
+use mathlib.Core.Path.{◌≡◌}
+use lib.ListN.{length, take}
+use Rattle.lent.specs.Over.{over}
 use Rattle.listing.specs.Listing as Listing
-use Rattle.listing.specs.ListingLaws.{length_rows, rows_written}
 use Rattle.listing.proofs.write_rows.Given as goal
 
 abbrev pub invariant-loop-i : goal.invariant-loop-i

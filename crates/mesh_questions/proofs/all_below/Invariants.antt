@@ -1,15 +1,9 @@
 -- `all_below` meets its contract. The invariant: the corners from place i on are vertices exactly when all are. The measure is the
 -- corners that are left.
 use Prim.Native.Nat.{◌≤◌, ◌-◌}
-use native.Mathlib.Omega.{arith}
-use mathlib.Core.Path.{◌≡◌, refl, sym, ◌∙◌}
-use mathlib.Core.Bool.{true, false}
-use lib.Dec.{ltb}
-use lib.ListN.{length, get_or, drop, drop_of_length-le}
-use borrow.Author.Rules.{rules}
-use borrow.Author.Tests.{lt-ltb, le-ltb}
+use mathlib.Core.Path.{◌≡◌}
+use lib.ListN.{length, drop}
 use Rattle.mesh_questions.specs.Questions.{all_below}
-use Rattle.mesh_questions.specs.QuestionLaws.{all_below_next}
 use Rattle.mesh_questions.proofs.all_below.Given as goal
 
 abbrev pub invariant-loop-i : goal.invariant-loop-i

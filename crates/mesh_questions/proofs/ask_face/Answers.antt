@@ -1,8 +1,6 @@
 -- `ask_face` meets its contract: its tests are the definition's, in their order.
 use mathlib.Core.Path.{sym, ◌∙◌}
-use lib.Dec.{leb}
 use lib.ListN.{length}
-use borrow.Author.Rules.{rules}
 use borrow.Author.Tests.{lt-leb, le-leb}
 use Rattle.mesh_questions.specs.Questions.{ask_face}
 use Rattle.mesh_questions.proofs.ask_face.Goals as goal

@@ -1,12 +1,9 @@
-use Prim.Native.Nat.{◌≤◌, ◌-◌}
 use native.Mathlib.Omega.{arith}
 use mathlib.Core.Path.{◌≡◌, refl, sym, ◌∙◌}
-use mathlib.Core.Bool.{true}
 use lib.ListN.{length, drop, drop_of_length-le}
-use borrow.Author.Rules.{rules}
 use Rattle.refusal.specs.declared.Verdict.TheVariants.{Passed}
 use Rattle.mesh_questions.specs.Faces.{faces, faces_from}
-use Rattle.mesh_questions.specs.Questions.{ends_fit, ask_faces}
+use Rattle.mesh_questions.specs.Questions.{ask_faces}
 use Rattle.mesh_questions.specs.QuestionLaws.{ends_fit_le, ends_fit_step, ask_faces_next}
 use Rattle.mesh_questions.proofs.ask_faces.Goals as goal
 

@@ -1,15 +1,11 @@
 -- `ask_faces` meets its contract. The invariant: the ends from face i on fit behind the start, and the faces from i on, asked from number i,
 -- give the answer of all. The measure is the faces that are left.
 use Prim.Native.Nat.{◌≤◌, ◌-◌}
-use native.Mathlib.Omega.{arith}
-use mathlib.Core.Path.{◌≡◌, refl, sym, ◌∙◌}
+use mathlib.Core.Path.{◌≡◌}
 use mathlib.Core.Bool.{true}
-use lib.ListN.{length, drop, drop_of_length-le}
-use borrow.Author.Rules.{rules}
-use Rattle.refusal.specs.declared.Verdict.TheVariants.{Passed}
+use lib.ListN.{length, drop}
 use Rattle.mesh_questions.specs.Faces.{faces, faces_from}
 use Rattle.mesh_questions.specs.Questions.{ends_fit, ask_faces}
-use Rattle.mesh_questions.specs.QuestionLaws.{ends_fit_le, ends_fit_step, ask_faces_next}
 use Rattle.mesh_questions.proofs.ask_faces.Given as goal
 
 abbrev pub invariant-loop-i : goal.invariant-loop-i

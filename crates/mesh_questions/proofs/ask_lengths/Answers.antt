@@ -1,7 +1,5 @@
 -- `ask_lengths` meets its contract: its tests are the definition's, in their order.
 use mathlib.Core.Path.{sym, ◌∙◌}
-use borrow.Author.Rules.{rules}
-use borrow.Author.Tests.{not-true, not-false}
 use Rattle.mesh_questions.specs.Questions.{ask_lengths}
 use Rattle.mesh_questions.proofs.ask_lengths.Goals as goal
 

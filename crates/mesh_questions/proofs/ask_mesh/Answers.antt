@@ -2,7 +2,6 @@
 -- number of triangles does not fall below 0.
 use mathlib.Core.Path.{◌≡◌, sym, ◌∙◌}
 use native.Mathlib.Omega.{arith}
-use borrow.Author.Rules.{rules}
 use Rattle.refusal.specs.declared.Verdict.TheVariants.{Passed}
 use Rattle.mesh_questions.specs.Questions.{ask_mesh, counts, mesh_asked}
 use Rattle.mesh_questions.specs.Accepted.{wide_corners, lengths_of, accepted}

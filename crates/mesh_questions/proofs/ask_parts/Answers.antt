@@ -1,7 +1,6 @@
 -- `ask_parts` meets its contract: the calls promise the two parts of the definition.
 use mathlib.Core.Path.{sym, ◌∙◌}
 use native.Mathlib.Omega.{arith}
-use borrow.Author.Rules.{rules}
 use Rattle.mesh_questions.specs.Questions.{ask_parts}
 use Rattle.mesh_questions.proofs.ask_parts.Goals as goal
 

@@ -1,15 +1,9 @@
 -- `ends_fit` meets its contract. The invariant: the ends from place i on fit behind the one before them exactly when all fit. The measure
 -- is the ends that are left.
 use Prim.Native.Nat.{◌≤◌, ◌-◌}
-use native.Mathlib.Omega.{arith}
-use mathlib.Core.Path.{◌≡◌, refl, sym, ◌∙◌}
-use mathlib.Core.Bool.{true, false}
-use lib.Dec.{leb}
-use lib.ListN.{length, get_or, drop, drop_of_length-le}
-use borrow.Author.Rules.{rules}
-use borrow.Author.Tests.{le-leb, lt-leb}
+use mathlib.Core.Path.{◌≡◌}
+use lib.ListN.{length, drop}
 use Rattle.mesh_questions.specs.Questions.{ends_fit}
-use Rattle.mesh_questions.specs.QuestionLaws.{ends_fit_next}
 use Rattle.mesh_questions.proofs.ends_fit.Given as goal
 
 abbrev pub invariant-loop-i : goal.invariant-loop-i

@@ -1,5 +1,4 @@
 -- `faces_fit` meets its contract: its tests are the definition's, in their order.
-use borrow.Author.Rules.{rules}
 use borrow.Author.Tests.{le-leb, lt-leb}
 use Rattle.mesh_questions.specs.Questions.{faces_fit}
 use Rattle.mesh_questions.proofs.faces_fit.Goals as goal

@@ -1,11 +1,9 @@
-use Prim.Native.Nat.{◌+◌, ◌-◌, ◌*◌, ◌≤◌, ◌<◌}
+use Prim.Native.Nat.{◌*◌, ◌<◌}
 use native.Mathlib.Omega.{arith}
 use mathlib.Core.Path.{◌≡◌}
 use mathlib.Core.Bool.{true, false}
 use lib.ListN.{length, drop, length-drop}
-use borrow.Author.Rules.{rules}
-use borrow.Author.Tests.{not-true, not-false}
-use Rattle.math.specs.Vectors.{at, points, points_short, is_finite}
+use Rattle.math.specs.Vectors.{at, points_short, is_finite}
 use Rattle.mesh_questions.specs.QuestionLaws.{first_not_finite, first_not_finite_next}
 use Rattle.mesh_questions.proofs.first_not_finite.Goals as goal
 

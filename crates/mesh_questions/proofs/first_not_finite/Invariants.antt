@@ -1,14 +1,10 @@
 -- `first_not_finite` meets its contract. The invariant: no point before i is out, so the first that is out is i places before its number. The measure is the
 -- points that are left.
-use Prim.Native.Nat.{◌+◌, ◌-◌, ◌*◌, ◌≤◌, ◌<◌}
-use native.Mathlib.Omega.{arith}
+use Prim.Native.Nat.{◌+◌, ◌-◌, ◌*◌, ◌≤◌}
 use mathlib.Core.Path.{◌≡◌}
-use mathlib.Core.Bool.{true, false}
-use lib.ListN.{length, drop, length-drop}
-use borrow.Author.Rules.{rules}
-use borrow.Author.Tests.{not-true, not-false}
-use Rattle.math.specs.Vectors.{at, points, points_short, is_finite}
-use Rattle.mesh_questions.specs.QuestionLaws.{first_not_finite, first_not_finite_next}
+use lib.ListN.{drop}
+use Rattle.math.specs.Vectors.{points}
+use Rattle.mesh_questions.specs.QuestionLaws.{first_not_finite}
 use Rattle.mesh_questions.proofs.first_not_finite.Given as goal
 
 abbrev pub invariant-loop-i : goal.invariant-loop-i

@@ -7,7 +7,6 @@ use borrow.Author.Tests.{leb-true}
 use Rattle.refusal.specs.Verdicts.{both}
 use Rattle.text.specs.Lines.{is_corner}
 use Rattle.numbers.specs.Numbers.{corner_of}
-use borrow.Author.Rules.{rules}
 use Rattle.numbers.proofs.corner_of.Goals as goal
 
 pub overflow_cast-result : goal.overflow_cast-result

@@ -1,9 +1,7 @@
-use Prim.Native.Nat.{◌-◌, ◌≤◌}
 use native.Mathlib.Omega.{arith}
 use mathlib.Core.Path.{◌≡◌, refl, sym}
-use lib.ListN.{length, length-set}
-use borrow.Author.Rules.{rules}
-use Rattle.lent.specs.Over.{over, over_nothing}
+use lib.ListN.{length-set}
+use Rattle.lent.specs.Over.{over_nothing}
 use Rattle.numbers.specs.Numbers.{ends_from}
 use Rattle.numbers.specs.NumberLaws.{ends_stored}
 use Rattle.numbers.proofs.fill_ends.Goals as goal

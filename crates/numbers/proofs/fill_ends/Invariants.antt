@@ -1,12 +1,9 @@
 -- `fill_ends` meets its contract: after i rounds the ends of the first i triangles stand in front.
 use Prim.Native.Nat.{◌-◌, ◌≤◌}
-use native.Mathlib.Omega.{arith}
-use mathlib.Core.Path.{◌≡◌, refl, sym}
-use lib.ListN.{length, length-set}
-use borrow.Author.Rules.{rules}
-use Rattle.lent.specs.Over.{over, over_nothing}
+use mathlib.Core.Path.{◌≡◌}
+use lib.ListN.{length}
+use Rattle.lent.specs.Over.{over}
 use Rattle.numbers.specs.Numbers.{ends_from}
-use Rattle.numbers.specs.NumberLaws.{ends_stored}
 use Rattle.numbers.proofs.fill_ends.Given as goal
 
 abbrev pub invariant-loop-i : goal.invariant-loop-i

@@ -1,10 +1,9 @@
-use Prim.Native.Nat.{◌+◌, ◌-◌, ◌*◌, ◌≤◌}
+use Prim.Native.Nat.{◌+◌, ◌-◌, ◌*◌}
 use native.Mathlib.Omega.{arith}
 use mathlib.Core.Path.{◌≡◌, refl, sym}
-use lib.ListN.{length, take, length-set}
+use lib.ListN.{length-set}
 use lib.Seq.{take_all}
-use borrow.Author.Rules.{rules}
-use Rattle.lent.specs.Over.{over, over_nothing}
+use Rattle.lent.specs.Over.{over_nothing}
 use Rattle.text.specs.Lines.{lines}
 use Rattle.text.specs.LineLaws.{line_at, length_lines}
 use Rattle.numbers.specs.Numbers.{float_of, numbers_of}

@@ -1,15 +1,10 @@
 -- `fill_points` meets its contract: after i rounds the numbers of the first i lines stand in front.
-use Prim.Native.Nat.{◌+◌, ◌-◌, ◌*◌, ◌≤◌}
-use native.Mathlib.Omega.{arith}
-use mathlib.Core.Path.{◌≡◌, refl, sym}
-use lib.ListN.{length, take, length-set}
-use lib.Seq.{take_all}
-use borrow.Author.Rules.{rules}
-use Rattle.lent.specs.Over.{over, over_nothing}
+use Prim.Native.Nat.{◌-◌, ◌≤◌}
+use mathlib.Core.Path.{◌≡◌}
+use lib.ListN.{length, take}
+use Rattle.lent.specs.Over.{over}
 use Rattle.text.specs.Lines.{lines}
-use Rattle.text.specs.LineLaws.{line_at, length_lines}
 use Rattle.numbers.specs.Numbers.{float_of, numbers_of}
-use Rattle.numbers.specs.NumberLaws.{numbers_stored}
 use Rattle.numbers.proofs.fill_points.Given as goal
 
 abbrev pub invariant-loop-i : goal.invariant-loop-i

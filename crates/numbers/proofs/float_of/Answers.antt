@@ -8,7 +8,6 @@ use lib.Ieee.{in_float, prec, binary64}
 use borrow.Author.Tests.{leb-true}
 use Rattle.text.specs.Lines.{is_count}
 use Rattle.numbers.specs.Numbers.{float_of}
-use borrow.Author.Rules.{rules}
 use Rattle.numbers.proofs.float_of.Goals as goal
 
 pub int_to_float-size : goal.int_to_float-size

@@ -1,7 +1,6 @@
 -- `point_of` meets its contract: the numbers of the line pass the test.
 use Rattle.text.specs.Lines.{is_count}
 use Rattle.text.specs.Accepted.{three}
-use borrow.Author.Rules.{rules}
 use Rattle.numbers.proofs.point_of.Goals as goal
 
 pub float_of-requires : goal.float_of-requires

@@ -1,7 +1,6 @@
 -- `triangle_of` meets its contract: the numbers of the line pass the test.
 use Rattle.text.specs.Lines.{is_corner}
 use Rattle.text.specs.Accepted.{three}
-use borrow.Author.Rules.{rules}
 use Rattle.numbers.proofs.triangle_of.Goals as goal
 
 pub corner_of-requires : goal.corner_of-requires

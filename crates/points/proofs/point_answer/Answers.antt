@@ -1,6 +1,5 @@
 -- `point_answer` meets its contract: over a tree that keeps the rules the walks find what the plain scan finds.
 use mathlib.Core.Path.{sym, ◌∙◌}
-use borrow.Author.Rules.{rules}
 use Rattle.scan.specs.Scan.{plain_scan}
 use Rattle.walks.specs.WalkScan.{walk_touches_scan}
 use Rattle.points.specs.Votes.{asked_ready, asked_bounds, asked_closed, asked_positive}

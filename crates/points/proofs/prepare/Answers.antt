@@ -1,5 +1,4 @@
 -- `prepare` meets its contract: the calls promise its parts.
-use borrow.Author.Rules.{rules}
 use Rattle.points.specs.Points.{prepared}
 use Rattle.points.proofs.prepare.Goals as goal
 

@@ -1,9 +1,8 @@
-use Prim.Native.Nat.{◌+◌, ◌-◌, ◌≤◌, ◌<◌}
+use Prim.Native.Nat.{◌<◌}
 use native.Mathlib.Omega.{arith}
 use mathlib.Core.Path.{◌≡◌, refl, sym, ap, ◌∙◌}
 use lib.Ieee.{nan}
-use lib.ListN.{get_or, drop}
-use borrow.Author.Rules.{rules}
+use lib.ListN.{get_or}
 use Rattle.math.specs.Vectors.{vec}
 use Rattle.mesh.specs.Mesh.{mesh}
 use Rattle.scan.specs.Scan as Scan

@@ -1,19 +1,10 @@
 -- `votes` meets its contract. The invariant: the votes so far, with those of the directions from k on, are the votes on the point. The measure is the directions that are left.
-use Prim.Native.Nat.{◌+◌, ◌-◌, ◌≤◌, ◌<◌}
-use native.Mathlib.Omega.{arith}
-use mathlib.Core.Path.{◌≡◌, refl, sym, ap, ◌∙◌}
-use lib.Ieee.{nan}
-use lib.ListN.{get_or, drop}
-use borrow.Author.Rules.{rules}
-use Rattle.math.specs.Vectors.{vec}
+use Prim.Native.Nat.{◌+◌, ◌-◌, ◌≤◌}
+use mathlib.Core.Path.{◌≡◌}
+use lib.ListN.{drop}
 use Rattle.mesh.specs.Mesh.{mesh}
 use Rattle.scan.specs.Scan as Scan
 use Rattle.scan.specs.Scan.{vote, directions, votes_from}
-use Rattle.points.specs.declared.Prepared.{Prepared}
-use Rattle.ray_walk.specs.Casts.{direction}
-use Rattle.points.specs.Points.{prepared}
-use Rattle.walks.specs.WalkScan.{walk_vote_scan}
-use Rattle.points.specs.Votes.{inverse_at, near_at, inverse_factors, votes_from_next, counted_sum, asked_ready}
 use Rattle.points.proofs.votes.Given as goal
 
 abbrev pub invariant-loop-k : goal.invariant-loop-k

@@ -1,6 +1,5 @@
 -- `inside_lin_poly` meets its contract: `inside_prism` promises the definition.
 use Rattle.poly.specs.Planes.{inside_lin_poly}
-use borrow.Author.Rules.{rules}
 use Rattle.poly.proofs.inside_lin_poly.Goals as goal
 
 pub returns : goal.returns

@@ -1,6 +1,5 @@
 -- `inside_polygon` meets its contract: `inside_prism` promises the definition.
 use Rattle.poly.specs.Planes.{inside_polygon}
-use borrow.Author.Rules.{rules}
 use Rattle.poly.proofs.inside_polygon.Goals as goal
 
 pub returns : goal.returns

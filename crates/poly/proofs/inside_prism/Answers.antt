@@ -1,6 +1,5 @@
 -- `inside_prism` meets its contract: its tests are those of the definition, in its order.
-use borrow.Author.Rules.{rules}
-use borrow.Author.Tests.{le-ltb, lt-ltb, not-true, not-false}
+use borrow.Author.Tests.{le-ltb, lt-ltb}
 use Rattle.poly.specs.Planes.{inside_prism}
 use Rattle.poly.proofs.inside_prism.Goals as goal
 

@@ -3,7 +3,6 @@ use Prim.Native.Nat.{◌+◌, ◌%◌}
 use native.Mathlib.Omega.{arith}
 use mathlib.Core.Path.{◌≡◌}
 use Rattle.poly.specs.Planes.{plane_axes}
-use borrow.Author.Rules.{rules}
 use Rattle.poly.proofs.plane_axes.Goals as goal
 
 pub returns : goal.returns

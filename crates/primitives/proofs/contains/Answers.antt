@@ -1,7 +1,5 @@
 -- `contains` meets its contract: its tests are the definition's questions, in their order, and `inside` promises the rule.
 use mathlib.Core.Path.{sym, ◌∙◌}
-use borrow.Author.Rules.{rules}
-use borrow.Author.Tests.{not-true, not-false}
 use Rattle.primitives.specs.Questions.{shape_answer, finite_point}
 use Rattle.primitives.proofs.contains.Goals as goal
 

@@ -1,6 +1,5 @@
 -- `finite_numbers` meets its contract: in each arm the shape is the arm's case, and the calls promise the parts of that case.
 use Rattle.primitives.specs.Questions.{finite_numbers}
-use borrow.Author.Rules.{rules}
 use Rattle.primitives.proofs.finite_numbers.Goals as goal
 
 pub returns-in-Box : goal.returns-in-Box

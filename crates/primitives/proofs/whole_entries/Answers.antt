@@ -1,7 +1,6 @@
 -- `whole_entries` meets its contract: `entry_size` promises the size, and the tests are those of the definition.
 use borrow.Author.Tests.{eq-eqb, ne_eqb}
 use Rattle.primitives.specs.Questions.{whole, whole_entries}
-use borrow.Author.Rules.{rules}
 use Rattle.primitives.proofs.whole_entries.Goals as goal
 
 pub returns-then-size-eq0 : goal.returns-then-size-eq0

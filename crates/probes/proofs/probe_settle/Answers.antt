@@ -2,7 +2,6 @@
 use mathlib.Core.Path.{refl, subst}
 use mathlib.Core.Logic.{inl, inr}
 use Rattle.sqrt.specs.Steps.{Finds}
-use borrow.Author.Rules.{rules}
 use Rattle.probes.proofs.probe_settle.Goals as goal
 
 pub returns-in-At : goal.returns-in-At

@@ -1,5 +1,4 @@
 -- `crossing` meets its contract: the calls promise the parts of the definition.
-use borrow.Author.Rules.{rules}
 use Rattle.scan.specs.Scan.{crossing}
 use Rattle.ray_walk.proofs.crossing.Goals as goal
 

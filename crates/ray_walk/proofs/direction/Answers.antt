@@ -3,7 +3,6 @@ use mathlib.Core.Path.{sym, ◌∙◌}
 use mathlib.Core.List.{List, [], ◌∷◌, map}
 use lib.Ieee.{Float, nan}
 use lib.ListN.{get_or, get_or-map}
-use borrow.Author.Rules.{rules}
 use Rattle.math.specs.declared.Vec3.{Vec3}
 use Rattle.math.specs.Vectors.{vec}
 use Rattle.scan.specs.Scan.{directions}

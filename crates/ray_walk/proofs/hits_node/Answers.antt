@@ -2,7 +2,6 @@
 use native.Mathlib.Omega.{arith}
 use Rattle.rays.specs.Slabs.{slab_hits, all_numbers, slab_same}
 use Rattle.ray_walk.specs.Planes.{places_within, entries, exits}
-use borrow.Author.Rules.{rules}
 use Rattle.ray_walk.proofs.hits_node.Goals as goal
 
 pub overflow_add-i : goal.overflow_add-i

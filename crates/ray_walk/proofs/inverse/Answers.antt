@@ -1,5 +1,4 @@
 -- `inverse` meets its contract: the three quotients.
-use borrow.Author.Rules.{rules}
 use Rattle.scan.specs.Scan.{inverse}
 use Rattle.ray_walk.proofs.inverse.Goals as goal
 

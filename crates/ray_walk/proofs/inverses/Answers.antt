@@ -1,5 +1,4 @@
 -- `inverses` meets its contract: the quotients of the three directions.
-use borrow.Author.Rules.{rules}
 use Rattle.scan.specs.Scan.{directions}
 use Rattle.ray_walk.specs.Casts.{direction}
 use Rattle.ray_walk.proofs.inverses.Goals as goal

@@ -1,11 +1,9 @@
-use Prim.Native.Nat.{◌+◌, ◌-◌, ◌≤◌}
+use Prim.Native.Nat.{◌+◌}
 use native.Mathlib.Omega.{arith}
 use mathlib.Core.Path.{◌≡◌, refl, sym}
-use borrow.Author.Rules.{rules}
-use lib.ListN.{length, length-set}
-use Rattle.mesh.specs.Mesh.{mesh}
+use lib.ListN.{length-set}
 use Rattle.mesh.specs.Items.{item_at_lem}
-use Rattle.ray_walk.specs.Leaves.{Kept, kept_none, kept_next}
+use Rattle.ray_walk.specs.Leaves.{kept_none, kept_next}
 use Rattle.ray_walk.proofs.keep_passing.Goals as goal
 
 pub loop-k-init : goal.loop-k-init

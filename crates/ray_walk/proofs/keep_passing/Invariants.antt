@@ -1,12 +1,9 @@
 -- `keep_passing` meets its contract. The invariant: those of the first k items whose own boxes pass are kept. The measure is the items that are left.
-use Prim.Native.Nat.{◌+◌, ◌-◌, ◌≤◌}
-use native.Mathlib.Omega.{arith}
-use mathlib.Core.Path.{◌≡◌, refl, sym}
-use borrow.Author.Rules.{rules}
-use lib.ListN.{length, length-set}
+use Prim.Native.Nat.{◌-◌, ◌≤◌}
+use mathlib.Core.Path.{◌≡◌}
+use lib.ListN.{length}
 use Rattle.mesh.specs.Mesh.{mesh}
-use Rattle.mesh.specs.Items.{item_at_lem}
-use Rattle.ray_walk.specs.Leaves.{Kept, kept_none, kept_next}
+use Rattle.ray_walk.specs.Leaves.{Kept}
 use Rattle.ray_walk.proofs.keep_passing.Given as goal
 
 abbrev pub invariant-loop-k : goal.invariant-loop-k

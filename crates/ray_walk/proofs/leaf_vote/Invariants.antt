@@ -1,15 +1,11 @@
 -- `leaf_vote` meets its contract. The invariant: the vote so far, with what is found at the triangles that are left of those that are kept, is that of all places. The
 -- measure is how many are left.
-use Prim.Native.Nat.{ℕ, ◌+◌, ◌-◌, ◌≤◌}
-use native.Mathlib.Omega.{arith}
-use mathlib.Core.Path.{◌≡◌, sym, ◌∙◌}
-use borrow.Author.Rules.{rules}
-use lib.ListN.{length-replicate}
+use Prim.Native.Nat.{◌-◌, ◌≤◌}
+use mathlib.Core.Path.{◌≡◌}
 use Rattle.mesh.specs.Mesh.{mesh}
 use Rattle.scan.specs.Scan.{found}
-use Rattle.scan.specs.ScanLaws.{cast_over, cast_over_none}
+use Rattle.scan.specs.ScanLaws.{cast_over}
 use Rattle.walks.specs.Walks.{items_from}
-use Rattle.walks.specs.WalkLaws.{items_from_next}
 use Rattle.ray_walk.proofs.leaf_vote.Given as goal
 
 abbrev pub invariant-loop-k : goal.invariant-loop-k

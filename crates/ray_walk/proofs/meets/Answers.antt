@@ -1,6 +1,5 @@
 -- `meets` meets its contract: its value is the definition.
 use mathlib.Core.Path.{refl}
-use borrow.Author.Rules.{rules}
 use Rattle.ray_walk.specs.Planes.{meets_at}
 use Rattle.ray_walk.proofs.meets.Goals as goal
 

@@ -1,5 +1,4 @@
 -- `near_place` meets its contract: the test is the definition's.
-use borrow.Author.Rules.{rules}
 use Rattle.ray_walk.specs.Planes.{near_place}
 use Rattle.ray_walk.proofs.near_place.Goals as goal
 

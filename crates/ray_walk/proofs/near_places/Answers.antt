@@ -1,5 +1,4 @@
 -- `near_places` meets its contract: the calls promise its parts.
-use borrow.Author.Rules.{rules}
 use Rattle.ray_walk.specs.Planes.{near_places}
 use Rattle.ray_walk.proofs.near_places.Goals as goal
 

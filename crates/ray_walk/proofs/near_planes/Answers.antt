@@ -1,7 +1,6 @@
 -- `near_planes` meets its contract: the places of the three directions.
 use Rattle.scan.specs.Scan.{directions}
 use Rattle.ray_walk.specs.Casts.{direction}
-use borrow.Author.Rules.{rules}
 use Rattle.ray_walk.proofs.near_planes.Goals as goal
 
 pub returns : goal.returns

@@ -1,11 +1,8 @@
 -- `next_leaf` meets its contract. The invariant: the walk has gone on from where the search began, and still comes to the same. The measure is the nodes from its place on.
 use Prim.Native.Nat.{◌-◌}
-use native.Mathlib.Omega.{arith}
-use mathlib.Core.Path.{sym}
 use Rattle.mesh.specs.Mesh.{mesh}
-use Rattle.tree.specs.Tree.{tree, node_count, start_of, count_of}
+use Rattle.tree.specs.Tree.{tree, node_count}
 use Rattle.scan.specs.Scan.{ray_passes}
-use Rattle.walks.specs.Stacks as Stacks
 use Rattle.walks.specs.Stacks.{Onward}
 use Rattle.ray_walk.proofs.next_leaf.Given as goal
 

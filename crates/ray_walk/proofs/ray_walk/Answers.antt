@@ -1,14 +1,10 @@
-use Prim.Native.Nat.{◌-◌}
 use native.Mathlib.Omega.{arith}
 use mathlib.Core.Path.{◌≡◌, refl, sym, ap, ◌∙◌}
-use borrow.Author.Rules.{rules}
-use borrow.Author.Tests.{not-true, not-false}
-use Rattle.mesh.specs.Mesh.{mesh}
-use Rattle.tree.specs.Tree.{tree, node_count, start_of, count_of}
+use Rattle.tree.specs.Tree.{start_of, count_of}
 use Rattle.scan.specs.declared.votes.Vote.TheVariants.{Even}
-use Rattle.scan.specs.Scan.{ray_passes, found}
+use Rattle.scan.specs.Scan.{ray_passes}
 use Rattle.scan.specs.ScanLaws.{cast_over, cast_over_append, cast_over_none, vote_over_cast}
-use Rattle.walks.specs.Walks.{all_visits, reached, walk_vote, ray_walk}
+use Rattle.walks.specs.Walks.{walk_vote, ray_walk}
 use Rattle.walks.specs.WalkLaws.{vote_up_to}
 use Rattle.walks.specs.ReadyLaws.{ready_items}
 use Rattle.walks.specs.Stacks as Stacks

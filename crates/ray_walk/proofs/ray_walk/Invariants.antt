@@ -1,20 +1,14 @@
 -- `ray_walk` meets its contract. The invariant: the vote so far, with what is found in all that the walk still comes to, is that of all that it comes to. The measure is
 -- the nodes from the walk's place on.
 use Prim.Native.Nat.{◌-◌}
-use native.Mathlib.Omega.{arith}
-use mathlib.Core.Path.{◌≡◌, refl, sym, ap, ◌∙◌}
-use borrow.Author.Rules.{rules}
-use borrow.Author.Tests.{not-true, not-false}
+use mathlib.Core.Path.{◌≡◌}
 use Rattle.mesh.specs.Mesh.{mesh}
-use Rattle.tree.specs.Tree.{tree, node_count, start_of, count_of}
+use Rattle.tree.specs.Tree.{tree, node_count}
 use Rattle.scan.specs.declared.votes.Vote.TheVariants.{Even}
 use Rattle.scan.specs.Scan.{ray_passes, found}
-use Rattle.scan.specs.ScanLaws.{cast_over, cast_over_append, cast_over_none, vote_over_cast}
-use Rattle.walks.specs.Walks.{all_visits, reached, walk_vote, ray_walk}
-use Rattle.walks.specs.WalkLaws.{vote_up_to}
-use Rattle.walks.specs.ReadyLaws.{ready_items}
-use Rattle.walks.specs.Stacks as Stacks
-use Rattle.walks.specs.Stacks.{Walking, pending, pending_from}
+use Rattle.scan.specs.ScanLaws.{cast_over}
+use Rattle.walks.specs.Walks.{all_visits, reached}
+use Rattle.walks.specs.Stacks.{Walking, pending}
 use Rattle.ray_walk.proofs.ray_walk.Given as goal
 
 abbrev pub invariant-loop-at : goal.invariant-loop-at

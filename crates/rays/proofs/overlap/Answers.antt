@@ -1,5 +1,4 @@
 -- `overlap` meets its contract: a maximum of numbers is a number, so each left side is one.
-use borrow.Author.Rules.{rules}
 use lib.Ieee.{of_bits, is_nan}
 use Rattle.float.specs.Arithmetic.{zero}
 use Rattle.float.specs.Order.{Number, max_number}

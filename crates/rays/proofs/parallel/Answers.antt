@@ -1,6 +1,5 @@
 -- `parallel` meets its contract: the calls promise its parts.
 use Rattle.rays.specs.Rays.{parallel}
-use borrow.Author.Rules.{rules}
 use Rattle.rays.proofs.parallel.Goals as goal
 
 pub returns : goal.returns

@@ -1,5 +1,4 @@
 -- `ray_hits_box` meets its contract: its test is `slab_hits`, which is csx's for a box that is not empty.
-use borrow.Author.Rules.{rules}
 use Rattle.rays.specs.Slabs.{slab_hits, all_numbers, slab_same}
 use Rattle.rays.proofs.ray_hits_box.Goals as goal
 

@@ -2,7 +2,6 @@
 use lib.Ieee.{of_bits}
 use Rattle.rays.specs.Rays.{hit_at, ray_triangle}
 use Rattle.rays.specs.RayLaws.{miss_anyway}
-use borrow.Author.Rules.{rules}
 use Rattle.rays.proofs.ray_triangle.Goals as goal
 
 pub returns-then-not-u : goal.returns-then-not-u

@@ -1,6 +1,5 @@
 -- `inside` meets its contract: in each arm the shape is the arm's case, and the call promises that case's rule.
 use Rattle.shapes.specs.Shapes.{inside}
-use borrow.Author.Rules.{rules}
 use Rattle.shapes.proofs.inside.Goals as goal
 
 pub returns-in-Box : goal.returns-in-Box

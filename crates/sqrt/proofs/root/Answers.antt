@@ -7,7 +7,6 @@ use denote.Floats.{passes}
 use Rattle.float.specs.Rules.{zero64}
 use Rattle.sqrt.specs.RootTheorem.Cases.{root_at_zero, root_none}
 use Rattle.sqrt.proofs.RootBits.{number, root_infinite, root_scaled, bits_positive}
-use borrow.Author.Rules.{rules}
 use Rattle.sqrt.proofs.root.Goals as goal
 
 held : (c : goal.Then-x) → T (fits binary64 c.args.x)

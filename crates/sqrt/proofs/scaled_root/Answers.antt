@@ -5,7 +5,6 @@ use native.Mathlib.Omega.{arith}
 use lib.Ieee.{odd}
 use Rattle.float.specs.Patterns.{number_pattern}
 use Rattle.sqrt.proofs.RootBits.{root_digits, normal_pattern}
-use borrow.Author.Rules.{rules}
 use Rattle.sqrt.proofs.scaled_root.Goals as goal
 
 range : (c : goal.After-nearest_root-q) → (2 ^ 52 ≤ c.nearest_root-q.result) × (c.nearest_root-q.result < 2 ^ 53)

@@ -4,7 +4,6 @@ use Prim.Native.Nat.{◌-◌}
 use lib.Count.{count_leading_zeros}
 use Rattle.float.specs.OrderTheorems.Pattern.{magnitude_normal}
 use Rattle.sqrt.proofs.RootBits.{Moved, moved, moved_value}
-use borrow.Author.Rules.{rules}
 use Rattle.sqrt.proofs.taken_apart.Goals as goal
 
 digits : (c : goal.Then-bits-lt4503599627370496) → Moved c.args.bits (count_leading_zeros 64 c.args.bits - 11)

@@ -1,12 +1,11 @@
 -- `build_node` meets its contract: a leaf is written, or the halves are, one after the other, and then the node. The number of items falls.
-use Prim.Native.Nat.{ℕ, ◌-◌, ◌/◌, ◌≤◌, ◌<◌}
+use Prim.Native.Nat.{ℕ, ◌-◌, ◌/◌, ◌≤◌}
 use native.Mathlib.Nat.{sub-zero}
 use native.Mathlib.Omega.{arith}
 use mathlib.Core.Path.{◌≡◌, refl, ◌∙◌}
 use mathlib.Core.List.{List, [], ◌++◌, append-nil}
 use lib.ListN.{length, take, drop, length-drop, length-append, drop_of_length-le}
 use lib.Seq.{length-take-le, take_all, take_at, drop_at}
-use borrow.Author.Rules.{rules}
 use Rattle.keys.specs.Sorting.{sorted}
 use Rattle.keys.specs.Permutations.{length_permuted}
 use Rattle.mesh.specs.Mesh.{mesh}

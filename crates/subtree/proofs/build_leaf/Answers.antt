@@ -1,7 +1,6 @@
 -- `build_leaf` meets its contract: the calls promise its parts, and sorting keeps the items.
 use native.Mathlib.Omega.{arith}
 use mathlib.Core.Path.{refl, ap, ◌∙◌}
-use borrow.Author.Rules.{rules}
 use Rattle.keys.specs.Sorting.{sorted}
 use Rattle.keys.specs.SortingTheorems.{length_sorted, sorted_permutation}
 use Rattle.mesh.specs.Mesh.{mesh}

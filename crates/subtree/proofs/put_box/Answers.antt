@@ -4,7 +4,6 @@ use native.Mathlib.Numerals.{add-one}
 use native.Mathlib.Omega.{arith}
 use mathlib.Core.Path.{◌≡◌}
 use lib.ListN.{length-set}
-use borrow.Author.Rules.{rules}
 use Rattle.subtree.proofs.put_box.Goals as goal
 
 pub bounds-boxes-n-2 : goal.bounds-boxes-n-2

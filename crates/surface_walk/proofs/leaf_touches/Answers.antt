@@ -1,11 +1,10 @@
-use Prim.Native.Nat.{◌+◌, ◌-◌, ◌≤◌}
+use Prim.Native.Nat.{◌+◌, ◌-◌}
 use native.Mathlib.Omega.{arith}
 use mathlib.Core.Path.{◌≡◌, refl, sym, ◌∙◌}
-use borrow.Author.Rules.{rules}
 use lib.ListN.{get_or}
 use Rattle.mesh.specs.Mesh.{mesh}
 use Rattle.mesh.specs.Items.{item_at_lem}
-use Rattle.scan.specs.Scan.{some, touches}
+use Rattle.scan.specs.Scan.{touches}
 use Rattle.scan.specs.ScanLaws.{some_nothing, some_cons}
 use Rattle.walks.specs.Walks.{items_from}
 use Rattle.walks.specs.WalkLaws.{items_from_next}

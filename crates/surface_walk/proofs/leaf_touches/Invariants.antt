@@ -1,15 +1,9 @@
 -- `leaf_touches` meets its contract. The invariant: no triangle before place k touches the point. The measure is the places that are left.
-use Prim.Native.Nat.{◌+◌, ◌-◌, ◌≤◌}
-use native.Mathlib.Omega.{arith}
-use mathlib.Core.Path.{◌≡◌, refl, sym, ◌∙◌}
-use borrow.Author.Rules.{rules}
-use lib.ListN.{get_or}
+use Prim.Native.Nat.{◌-◌, ◌≤◌}
+use mathlib.Core.Path.{◌≡◌}
 use Rattle.mesh.specs.Mesh.{mesh}
-use Rattle.mesh.specs.Items.{item_at_lem}
 use Rattle.scan.specs.Scan.{some, touches}
-use Rattle.scan.specs.ScanLaws.{some_nothing, some_cons}
 use Rattle.walks.specs.Walks.{items_from}
-use Rattle.walks.specs.WalkLaws.{items_from_next}
 use Rattle.surface_walk.proofs.leaf_touches.Given as goal
 
 abbrev pub invariant-loop-k : goal.invariant-loop-k

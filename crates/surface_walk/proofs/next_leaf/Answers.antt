@@ -1,9 +1,6 @@
-use Prim.Native.Nat.{◌-◌}
 use native.Mathlib.Omega.{arith}
 use mathlib.Core.Path.{sym}
-use Rattle.mesh.specs.Mesh.{mesh}
-use Rattle.tree.specs.Tree.{tree, node_count, start_of, count_of}
-use Rattle.scan.specs.Scan.{surface_passes}
+use Rattle.tree.specs.Tree.{start_of, count_of}
 use Rattle.walks.specs.Stacks as Stacks
 use Rattle.walks.specs.Stacks.{Onward}
 use Rattle.surface_walk.proofs.next_leaf.Goals as goal

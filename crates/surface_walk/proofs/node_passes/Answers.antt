@@ -1,7 +1,6 @@
 -- `node_passes` meets its contract.
 use Rattle.scan.specs.Scan.{surface_passes}
 use mathlib.Core.Path.{ap, ◌∙◌}
-use borrow.Author.Rules.{rules}
 use Rattle.surface_walk.proofs.node_passes.Goals as goal
 
 pub returns : goal.returns

@@ -1,5 +1,4 @@
 -- `surface_passes` meets its contract: the calls promise the parts of the definition.
-use borrow.Author.Rules.{rules}
 use Rattle.scan.specs.Scan.{surface_passes}
 use Rattle.surface_walk.proofs.surface_passes.Goals as goal
 

@@ -1,12 +1,9 @@
-use Prim.Native.Nat.{◌-◌}
 use native.Mathlib.Omega.{arith}
 use mathlib.Core.Path.{◌≡◌, sym, ap, ◌∙◌}
-use borrow.Author.Tests.{not-true, not-false}
-use Rattle.mesh.specs.Mesh.{mesh}
-use Rattle.tree.specs.Tree.{tree, node_count, start_of, count_of}
-use Rattle.scan.specs.Scan.{some, surface_passes, touches}
+use Rattle.tree.specs.Tree.{start_of, count_of}
+use Rattle.scan.specs.Scan.{some}
 use Rattle.scan.specs.ScanLaws.{some_nothing, some_append}
-use Rattle.walks.specs.Walks.{all_visits, reached, walk_touches, surface_walk}
+use Rattle.walks.specs.Walks.{walk_touches, surface_walk}
 use Rattle.walks.specs.WalkLaws.{some_up_to}
 use Rattle.walks.specs.ReadyLaws.{ready_items}
 use Rattle.walks.specs.Stacks as Stacks

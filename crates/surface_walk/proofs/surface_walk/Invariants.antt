@@ -1,18 +1,12 @@
 -- `surface_walk` meets its contract. The invariant: a triangle that the walk still comes to touches the point exactly if one of all that it comes to does. The measure is
 -- the nodes from the walk's place on.
 use Prim.Native.Nat.{◌-◌}
-use native.Mathlib.Omega.{arith}
-use mathlib.Core.Path.{◌≡◌, sym, ap, ◌∙◌}
-use borrow.Author.Tests.{not-true, not-false}
+use mathlib.Core.Path.{◌≡◌}
 use Rattle.mesh.specs.Mesh.{mesh}
-use Rattle.tree.specs.Tree.{tree, node_count, start_of, count_of}
+use Rattle.tree.specs.Tree.{tree, node_count}
 use Rattle.scan.specs.Scan.{some, surface_passes, touches}
-use Rattle.scan.specs.ScanLaws.{some_nothing, some_append}
-use Rattle.walks.specs.Walks.{all_visits, reached, walk_touches, surface_walk}
-use Rattle.walks.specs.WalkLaws.{some_up_to}
-use Rattle.walks.specs.ReadyLaws.{ready_items}
-use Rattle.walks.specs.Stacks as Stacks
-use Rattle.walks.specs.Stacks.{Walking, pending, pending_from}
+use Rattle.walks.specs.Walks.{all_visits, reached}
+use Rattle.walks.specs.Stacks.{Walking, pending}
 use Rattle.surface_walk.proofs.surface_walk.Given as goal
 
 abbrev pub invariant-loop-at : goal.invariant-loop-at

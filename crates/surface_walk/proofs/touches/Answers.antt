@@ -1,6 +1,5 @@
 -- `touches` meets its contract: the corners of a triangle of an accepted mesh are finite vertices.
 use mathlib.Core.Path.{sym}
-use borrow.Author.Rules.{rules}
 use Rattle.mesh_questions.specs.Accepted.{fanned}
 use Rattle.mesh.specs.Triangles.{triangle}
 use Rattle.mesh.specs.Corners.{triangle_corners, triangle_finite}

@@ -1,5 +1,4 @@
 -- `within` meets its contract: the calls promise the parts of the definition.
-use borrow.Author.Rules.{rules}
 use Rattle.scan.specs.Scan.{within}
 use Rattle.surface_walk.proofs.within.Goals as goal
 

@@ -1,6 +1,5 @@
 -- `are_corners` meets its contract: its calls give the three tests.
 use Rattle.text.specs.Lines.{all_three}
-use borrow.Author.Rules.{rules}
 use Rattle.text.proofs.are_corners.Goals as goal
 
 pub returns : goal.returns

@@ -1,7 +1,6 @@
 -- `counted` meets its contract, by cases of the kind.
 use native.Mathlib.Omega.{arith}
 use Rattle.text.specs.Lines.{lines_in, counted}
-use borrow.Author.Rules.{rules}
 use Rattle.text.proofs.counted.Goals as goal
 
 pub overflow_add-result : goal.overflow_add-result

@@ -1,6 +1,5 @@
 -- `is_corner` meets its contract, by cases of the field.
 use Rattle.text.specs.Lines.{is_corner}
-use borrow.Author.Rules.{rules}
 use Rattle.text.proofs.is_corner.Goals as goal
 
 pub returns-in-Bad : goal.returns-in-Bad

@@ -3,7 +3,6 @@ use native.Mathlib.Omega.{arith}
 use lib.ListN.{length-take}
 use borrow.Author.Tests.{eq-eqb, ne_eqb}
 use Rattle.text.specs.Lines.{kind_of, of_kind}
-use borrow.Author.Rules.{rules}
 use Rattle.text.proofs.judge_line.Goals as goal
 
 pub returns-then-line-ne36 : goal.returns-then-line-ne36

@@ -1,9 +1,7 @@
-use Prim.Native.Nat.{◌-◌, ◌*◌, ◌≤◌}
 use native.Mathlib.Omega.{arith}
-use mathlib.Core.Path.{◌≡◌, refl, sym, ◌∙◌}
-use lib.ListN.{length, drop, length-drop}
-use borrow.Author.Tests.{not-true, not-false}
-use Rattle.text.specs.Lines.{none, lines_in, lines, judge}
+use mathlib.Core.Path.{refl, sym, ◌∙◌}
+use lib.ListN.{drop, length-drop}
+use Rattle.text.specs.Lines.{none, lines_in, judge}
 use Rattle.text.specs.LineLaws.{lines_nil, judge_next, counted_next}
 use Rattle.text.proofs.judge_text.Goals as goal
 

@@ -1,11 +1,8 @@
 -- `judge_text` meets its contract: the lines from `start` on are still to be judged.
 use Prim.Native.Nat.{◌-◌, ◌*◌, ◌≤◌}
-use native.Mathlib.Omega.{arith}
-use mathlib.Core.Path.{◌≡◌, refl, sym, ◌∙◌}
-use lib.ListN.{length, drop, length-drop}
-use borrow.Author.Tests.{not-true, not-false}
+use mathlib.Core.Path.{◌≡◌}
+use lib.ListN.{length, drop}
 use Rattle.text.specs.Lines.{none, lines_in, lines, judge}
-use Rattle.text.specs.LineLaws.{lines_nil, judge_next, counted_next}
 use Rattle.text.proofs.judge_text.Given as goal
 
 abbrev pub invariant-loop-start : goal.invariant-loop-start

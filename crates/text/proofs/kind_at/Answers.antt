@@ -4,7 +4,6 @@ use native.Mathlib.Omega.{arith}
 use mathlib.Core.Path.{◌≡◌}
 use lib.ListN.{length, drop, length-drop}
 use lib.Seq.{take_all}
-use borrow.Author.Rules.{rules}
 use Rattle.text.proofs.kind_at.Goals as goal
 
 pub returns-then-text-start-lt36 : goal.returns-then-text-start-lt36

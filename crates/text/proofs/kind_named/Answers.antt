@@ -1,7 +1,6 @@
 -- `kind_named` meets its contract, by cases of the field and of its number.
 use borrow.Author.Tests.{eq-eqb, ne_eqb}
 use Rattle.text.specs.Lines.{kind_named}
-use borrow.Author.Rules.{rules}
 use Rattle.text.proofs.kind_named.Goals as goal
 
 pub returns-then-negative : goal.returns-then-negative

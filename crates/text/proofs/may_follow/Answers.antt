@@ -2,7 +2,6 @@
 use native.Mathlib.Omega.{arith}
 use borrow.Author.Tests.{lt-ltb, le-ltb}
 use Rattle.text.specs.Lines.{lines_in, fits, may_follow}
-use borrow.Author.Rules.{rules}
 use Rattle.text.proofs.may_follow.Goals as goal
 
 pub returns-then-lines_in-ge1024 : goal.returns-then-lines_in-ge1024

@@ -3,7 +3,6 @@ use Rattle.text.specs.Lines.{number_at}
 use Prim.Native.Nat.{◌+◌, ◌-◌, ◌*◌}
 use native.Mathlib.Omega.{arith}
 use mathlib.Core.Path.{◌≡◌}
-use borrow.Author.Rules.{rules}
 use Rattle.text.proofs.number_at.Goals as goal
 
 pub returns : goal.returns

@@ -1,5 +1,4 @@
 -- `node_box` meets its contract: it reads the two corners of the definition.
-use borrow.Author.Rules.{rules}
 use Rattle.tree.specs.Tree.{box_at}
 use Rattle.tree.proofs.node_box.Goals as goal
 

@@ -2,11 +2,10 @@
 use native.Mathlib.Nat.{pos_of_ne-zero}
 use native.Mathlib.Omega.{arith}
 use mathlib.Core.Path.{◌≡◌, sym, ◌∙◌}
-use borrow.Author.Rules.{rules}
 use Rattle.mesh.specs.Mesh.{mesh}
 use Rattle.tree.specs.Tree.{tree, node_count, start_of, count_of}
 use Rattle.tree.specs.TreeTest.{walk, walk_out, walk_leaf, left_faults, left_ends_elsewhere, right_follows}
-use Prim.Native.Nat.{ℕ, ◌-◌, ◌*◌, ◌<◌}
+use Prim.Native.Nat.{◌-◌, ◌*◌, ◌<◌}
 use Rattle.tree_check.proofs.+check_node.Goals as goal
 
 pub returns-then-depth-eq0 : goal.returns-then-depth-eq0

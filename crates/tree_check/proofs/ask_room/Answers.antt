@@ -1,6 +1,5 @@
 -- `ask_room` meets its contract: what `ask_mesh` promises is the verdict of questions 1 to 5, and the test that follows is question 6.
 use mathlib.Core.Path.{sym, ◌∙◌}
-use borrow.Author.Rules.{rules}
 use borrow.Author.Tests.{le-leb, lt-leb}
 use Rattle.mesh_questions.specs.Accepted.{asked_passed, asked_refused}
 use Rattle.tree_check.specs.Check.{ask_room}

@@ -1,6 +1,5 @@
 -- `boxed` meets its contract: its cases are those of the definition, and `encloses` promises the test.
 use mathlib.Core.Path.{sym, ◌∙◌}
-use borrow.Author.Rules.{rules}
 use Rattle.tree.specs.TreeTest.{boxed_by}
 use Rattle.tree_check.proofs.boxed.Goals as goal
 

@@ -2,7 +2,6 @@
 -- where they end fits.
 use Prim.Native.Nat.{◌+◌, ◌*◌}
 use native.Mathlib.Omega.{arith}
-use borrow.Author.Rules.{rules}
 use borrow.Author.Tests.{le-leb, lt-leb, eq-eqb, ne_eqb}
 use Rattle.tree.specs.Tree.{start_of, count_of}
 use Rattle.tree.specs.TreeTest.{leaf_walk}

@@ -1,7 +1,6 @@
-use Prim.Native.Nat.{◌+◌, ◌-◌, ◌≤◌, ◌<◌}
+use Prim.Native.Nat.{◌+◌, ◌-◌}
 use native.Mathlib.Omega.{arith}
 use mathlib.Core.Path.{◌≡◌, sym, ◌∙◌}
-use borrow.Author.Rules.{rules}
 use Rattle.mesh.specs.Mesh.{mesh}
 use Rattle.tree.specs.Tree.{tree, item_at}
 use Rattle.tree.specs.TreeTest.{join_from, join_items, join_from_next}

@@ -1,12 +1,10 @@
 -- `join_items` meets its contract. The invariant: the join so far, with the own boxes of the items from k on, is the join of all. The measure
 -- is the items that are left.
-use Prim.Native.Nat.{◌+◌, ◌-◌, ◌≤◌, ◌<◌}
-use native.Mathlib.Omega.{arith}
-use mathlib.Core.Path.{◌≡◌, sym, ◌∙◌}
-use borrow.Author.Rules.{rules}
+use Prim.Native.Nat.{◌-◌, ◌≤◌, ◌<◌}
+use mathlib.Core.Path.{◌≡◌}
 use Rattle.mesh.specs.Mesh.{mesh}
-use Rattle.tree.specs.Tree.{tree, item_at}
-use Rattle.tree.specs.TreeTest.{join_from, join_items, join_from_next}
+use Rattle.tree.specs.Tree.{tree}
+use Rattle.tree.specs.TreeTest.{join_from, join_items}
 use Rattle.tree_check.proofs.join_items.Given as goal
 
 abbrev pub invariant-loop-k : goal.invariant-loop-k

@@ -8,8 +8,7 @@ use mathlib.Core.List.{List}
 use lib.Dec.{eqb}
 use lib.ListN.{length, drop}
 use lib.Seq.{drop-drop}
-use borrow.Author.Rules.{rules}
-use borrow.Author.Tests.{eqb-true, not-true, not-false}
+use borrow.Author.Tests.{eqb-true}
 use Rattle.refusal.specs.Verdicts.{both}
 use Rattle.items.specs.Once.{once_below_lem}
 use Rattle.items.specs.Counting.{once_below, CountsOnce}

@@ -1,5 +1,4 @@
 -- `with_left` meets its contract: its cases are those of the definition, and `join` promises the join.
-use borrow.Author.Rules.{rules}
 use Rattle.tree.specs.TreeTest.{with_left}
 use Rattle.tree_check.proofs.with_left.Goals as goal
 

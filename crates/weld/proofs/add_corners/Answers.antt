@@ -12,7 +12,6 @@ use Rattle.weld.specs.Welding.{add, add_all}
 use Rattle.weld.specs.Steps.{first, Adds, AddsThree}
 use Rattle.weld.specs.Finding.{length_add}
 use Rattle.weld.specs.Lists.{length_first, first_over, over_numbers}
-use borrow.Author.Rules.{rules}
 use Rattle.weld.proofs.add_corners.Goals as goal
 
 module _ (vs : List Vec3) (l : List Float) (p : Vec3) (r : Corner) (l' : List Float) (one : Adds vs l p r l') where

@@ -12,7 +12,6 @@ use Rattle.weld.specs.Welding.{find, numbers}
 use Rattle.weld.specs.Steps.{first, Adds}
 use Rattle.weld.specs.Finding.{find_le, add_found, add_new}
 use Rattle.weld.specs.Lists.{numbers_append, numbers_first, over_first, length_first}
-use borrow.Author.Rules.{rules}
 use Rattle.weld.proofs.add_vertex.Goals as goal
 
 module _ (n : ℕ) (l : List Float) (p : Vec3) (r : ℕ) (room : 3 * n + 2 < length l) (e : r ≡ find (first n l) p) where

@@ -2,10 +2,8 @@
 use native.Mathlib.Omega.{arith}
 use mathlib.Core.Bool.{true, false}
 use mathlib.Core.Path.{◌≡◌, sym}
-use borrow.Author.Tests.{not-true, not-false}
 use Rattle.weld.specs.Questions.{ask_triangles, whole_triangles, ask_corners, room}
 use Rattle.weld.specs.Passed.{whole_passed}
-use borrow.Author.Rules.{rules}
 use Rattle.weld.proofs.ask_triangles.Goals as goal
 
 pub returns-then-not-triangles-n : goal.returns-then-not-triangles-n

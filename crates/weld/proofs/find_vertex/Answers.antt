@@ -1,9 +1,8 @@
-use Prim.Native.Nat.{◌+◌, ◌-◌, ◌≤◌}
+use Prim.Native.Nat.{◌+◌}
 use native.Mathlib.Omega.{arith}
 use mathlib.Core.Path.{◌≡◌, sym, ap, ◌∙◌}
 use mathlib.Core.Bool.{true, false}
 use lib.ListN.{drop, drop_of_length-le}
-use borrow.Author.Rules.{rules}
 use Rattle.mesh.specs.Boxes.{vertex}
 use Rattle.weld.specs.Welding.{same, find}
 use Rattle.weld.specs.Steps.{first}

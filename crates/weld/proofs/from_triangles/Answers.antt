@@ -13,7 +13,6 @@ use Rattle.weld.specs.declared.Welded.TheVariants.{Refused, Sizes}
 use Rattle.weld.specs.Questions.{verdict, weld_answer, Welds}
 use Rattle.weld.specs.Steps.{WeldsAll}
 use Rattle.weld.specs.Passed.{triangles_passed}
-use borrow.Author.Rules.{rules}
 use Rattle.weld.proofs.from_triangles.Goals as goal
 
 refused : (triangles coords : List Float) (corners ends : List ℕ) (refusal : Refusal) → verdict triangles coords corners ends ≡ Verdicts.Refused refusal

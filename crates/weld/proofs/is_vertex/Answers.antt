@@ -8,7 +8,6 @@ use mathlib.Core.Path.{◌≡◌}
 use Rattle.math.specs.Vectors.{at}
 use Rattle.mesh.specs.Boxes.{vertex}
 use Rattle.weld.specs.Welding.{same}
-use borrow.Author.Rules.{rules}
 use Rattle.weld.proofs.is_vertex.Goals as goal
 
 pub returns-then-coords-v : goal.returns-then-coords-v

@@ -9,7 +9,6 @@ use Rattle.lent.specs.Over.{over_own, over_stores, over_three}
 use Rattle.mesh.specs.declared.Triangle.{Triangle}
 use Rattle.weld.specs.Welding.{degenerate, kept, corners_of, ends_from}
 use Rattle.weld.specs.Steps.{Keeps}
-use borrow.Author.Rules.{rules}
 use Rattle.weld.proofs.keep_triangle.Goals as goal
 
 -- of a degenerate triangle nothing is written

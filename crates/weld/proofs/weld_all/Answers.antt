@@ -1,10 +1,9 @@
-use Prim.Native.Nat.{◌-◌, ◌/◌, ◌≤◌}
+use Prim.Native.Nat.{◌/◌}
 use native.Mathlib.Omega.{arith}
-use mathlib.Core.Path.{◌≡◌, refl, ◌∙◌}
+use mathlib.Core.Path.{refl, ◌∙◌}
 use lib.ListN.{length}
-use borrow.Author.Rules.{rules}
 use Rattle.weld.specs.Passed.{whole_passed, room_passed}
-use Rattle.weld.proofs.Walk.{Done, done_none, done_next, done_all, length_vertices_to, length_faces_to}
+use Rattle.weld.proofs.Walk.{done_none, done_next, done_all, length_vertices_to, length_faces_to}
 use Rattle.weld.proofs.weld_all.Goals as goal
 
 pub loop-i-init : goal.loop-i-init

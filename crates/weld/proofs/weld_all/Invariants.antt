@@ -1,12 +1,9 @@
 -- `weld_all` meets its contract. The invariant: the first i triangles are welded (`Done`), and each buffer has its length. The measure
 -- is the triangles that are left.
-use Prim.Native.Nat.{◌-◌, ◌/◌, ◌≤◌}
-use native.Mathlib.Omega.{arith}
-use mathlib.Core.Path.{◌≡◌, refl, ◌∙◌}
+use Prim.Native.Nat.{◌-◌, ◌≤◌}
+use mathlib.Core.Path.{◌≡◌}
 use lib.ListN.{length}
-use borrow.Author.Rules.{rules}
-use Rattle.weld.specs.Passed.{whole_passed, room_passed}
-use Rattle.weld.proofs.Walk.{Done, done_none, done_next, done_all, length_vertices_to, length_faces_to}
+use Rattle.weld.proofs.Walk.{Done}
 use Rattle.weld.proofs.weld_all.Given as goal
 
 abbrev pub invariant-loop-i : goal.invariant-loop-i

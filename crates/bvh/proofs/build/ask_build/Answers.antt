@@ -3,7 +3,6 @@ use Prim.Native.Nat.{◌-◌, ◌*◌}
 use native.Mathlib.Omega.{arith}
 use mathlib.Core.Path.{◌≡◌, sym, ◌∙◌}
 use lib.ListN.{length}
-use borrow.Author.Rules.{rules}
 use Rattle.mesh_questions.specs.Accepted.{accepted, asked_passed, asked_refused}
 use Rattle.mesh.specs.Mesh.{mesh, triangle_count}
 use Rattle.tree.specs.TreeTest.{triangle_count_accepted}

@@ -4,7 +4,6 @@ use native.Mathlib.Omega.{arith}
 use mathlib.Core.Path.{◌≡◌, sym, ◌∙◌}
 use lib.ListN.{length}
 use lib.Seq.{length-take-le}
-use borrow.Author.Rules.{rules}
 use Rattle.mesh.specs.Mesh.{mesh, triangle_count}
 use Rattle.tree.specs.TreeTest.{triangle_count_accepted}
 use Rattle.bvh.specs.BuildLaws.{accepted_mesh, rooms, builds_refused, builds_none, builds_room, builds_all}

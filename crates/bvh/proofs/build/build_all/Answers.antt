@@ -1,6 +1,5 @@
 -- `build_all` meets its contract: the items are numbered, and the tree over them is written.
 use native.Mathlib.Omega.{arith}
-use borrow.Author.Rules.{rules}
 use Rattle.bvh.specs.BuildLaws.{few_triangles, whole_room}
 use Rattle.bvh.proofs.build.build_all.Goals as goal
 

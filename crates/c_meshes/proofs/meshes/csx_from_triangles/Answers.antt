@@ -1,7 +1,6 @@
 -- `csx_from_triangles` meets its contract: what `ask_triangles` and `from_triangles` promise, with the test of the sizes, is the verdict and
 -- what it leaves in the buffers.
 use mathlib.Core.Path.{◌≡◌, sym, ◌∙◌}
-use borrow.Author.Rules.{rules}
 use borrow.Author.Tests.{lt-leb}
 use Rattle.refusal.specs.declared.Verdict.TheVariants.{Refused}
 use Rattle.refusal.specs.declared.Refusal.TheVariants.{Room}

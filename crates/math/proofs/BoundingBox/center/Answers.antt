@@ -1,6 +1,5 @@
 -- `BoundingBox::center` meets its contract: the calls promise the parts of the definition.
 use Rattle.math.specs.Boxes.{center}
-use borrow.Author.Rules.{rules}
 use Rattle.math.proofs.BoundingBox.center.Goals as goal
 
 pub returns : goal.returns

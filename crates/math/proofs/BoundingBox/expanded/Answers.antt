@@ -1,6 +1,5 @@
 -- `BoundingBox::expanded` meets its contract: the calls promise the parts of the definition.
 use Rattle.math.specs.Boxes.{expanded}
-use borrow.Author.Rules.{rules}
 use Rattle.math.proofs.BoundingBox.expanded.Goals as goal
 
 pub returns : goal.returns

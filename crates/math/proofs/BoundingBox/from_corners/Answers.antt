@@ -1,6 +1,5 @@
 -- `BoundingBox::from_corners` meets its contract: the calls promise the parts of the definition.
 use Rattle.math.specs.Boxes.{from_corners}
-use borrow.Author.Rules.{rules}
 use Rattle.math.proofs.BoundingBox.from_corners.Goals as goal
 
 pub returns : goal.returns

@@ -1,6 +1,5 @@
 -- `BoundingBox::include` meets its contract: the calls promise the parts of the definition.
 use Rattle.math.specs.Boxes.{include}
-use borrow.Author.Rules.{rules}
 use Rattle.math.proofs.BoundingBox.include.Goals as goal
 
 pub returns : goal.returns

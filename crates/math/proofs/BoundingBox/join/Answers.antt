@@ -1,5 +1,4 @@
 -- `BoundingBox::join` meets its contract: the calls promise the parts of the definition.
-use borrow.Author.Rules.{rules}
 use Rattle.math.specs.Boxes.{join}
 use Rattle.math.proofs.BoundingBox.join.Goals as goal
 

@@ -1,6 +1,5 @@
 -- `BoundingBox::size` meets its contract: the calls promise the parts of the definition.
 use Rattle.math.specs.Boxes.{size}
-use borrow.Author.Rules.{rules}
 use Rattle.math.proofs.BoundingBox.size.Goals as goal
 
 pub returns : goal.returns

@@ -1,7 +1,6 @@
 -- `BoundingBox::union` meets its contract: its tests are those of the definition.
 use mathlib.Core.Path.{sym, ◌∙◌}
 use Rattle.math.specs.Boxes.{union}
-use borrow.Author.Rules.{rules}
 use Rattle.math.proofs.BoundingBox.union.Goals as goal
 
 pub returns-then-is_empty : goal.returns-then-is_empty

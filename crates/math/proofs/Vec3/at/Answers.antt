@@ -1,5 +1,4 @@
 -- `Vec3::at` meets its contract: it reads the three numbers of the definition.
-use borrow.Author.Rules.{rules}
 use mathlib.Core.Path.{refl}
 use Rattle.math.specs.Vectors.{at}
 use Rattle.math.proofs.Vec3.at.Goals as goal

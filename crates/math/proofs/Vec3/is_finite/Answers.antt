@@ -1,6 +1,5 @@
 -- `Vec3::is_finite` meets its contract: the calls promise the parts of the definition.
 use Rattle.math.specs.Vectors.{is_finite}
-use borrow.Author.Rules.{rules}
 use Rattle.math.proofs.Vec3.is_finite.Goals as goal
 
 pub returns : goal.returns

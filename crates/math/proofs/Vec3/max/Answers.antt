@@ -1,6 +1,5 @@
 -- `Vec3::max` meets its contract: the calls promise the parts of the definition.
 use Rattle.math.specs.Vectors.{max}
-use borrow.Author.Rules.{rules}
 use Rattle.math.proofs.Vec3.max.Goals as goal
 
 pub returns : goal.returns

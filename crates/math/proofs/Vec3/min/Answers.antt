@@ -1,6 +1,5 @@
 -- `Vec3::min` meets its contract: the calls promise the parts of the definition.
 use Rattle.math.specs.Vectors.{min}
-use borrow.Author.Rules.{rules}
 use Rattle.math.proofs.Vec3.min.Goals as goal
 
 pub returns : goal.returns

@@ -1,6 +1,5 @@
 -- `Vec3::norm` meets its contract: the calls promise the parts of the definition.
 use Rattle.math.specs.Vectors.{norm}
-use borrow.Author.Rules.{rules}
 use Rattle.math.proofs.Vec3.norm.Goals as goal
 
 pub returns : goal.returns

@@ -1,5 +1,4 @@
 -- `center_on` meets its contract: a triangle's centre on one axis depends on that axis alone.
-use borrow.Author.Rules.{rules}
 use Rattle.mesh.specs.Centers.{center_on_lem, number_on}
 use Rattle.mesh.proofs.boxes.center_on.Goals as goal
 

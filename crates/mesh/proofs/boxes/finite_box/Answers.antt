@@ -1,5 +1,4 @@
 -- `finite_box` meets its contract: the definition finds the same lowest and highest numbers, axis by axis.
-use borrow.Author.Rules.{rules}
 use Rattle.mesh.specs.Centers.{box_by_axes, corner_numbers}
 use Rattle.mesh.proofs.boxes.finite_box.Goals as goal
 

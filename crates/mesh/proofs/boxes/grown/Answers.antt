@@ -1,5 +1,4 @@
 -- `grown` meets its contract: the calls promise the parts of the definition.
-use borrow.Author.Rules.{rules}
 use Rattle.mesh.specs.Boxes.{grown}
 use Rattle.mesh.proofs.boxes.grown.Goals as goal
 

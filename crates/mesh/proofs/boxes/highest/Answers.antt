@@ -1,5 +1,4 @@
 -- `highest` meets its contract: the infinity that the definition starts from gives way to the first number.
-use borrow.Author.Rules.{rules}
 use Rattle.float.specs.Order.{max_number, max_bottom}
 use Rattle.mesh.proofs.boxes.highest.Goals as goal
 

@@ -1,5 +1,4 @@
 -- `lowest` meets its contract: the infinity that the definition starts from gives way to the first number.
-use borrow.Author.Rules.{rules}
 use Rattle.float.specs.Order.{min_number, min_top}
 use Rattle.mesh.proofs.boxes.lowest.Goals as goal
 

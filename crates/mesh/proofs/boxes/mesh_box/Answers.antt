@@ -1,8 +1,7 @@
-use Prim.Native.Nat.{◌≤◌, ◌<◌, ◌-◌, ◌*◌}
+use Prim.Native.Nat.{◌<◌, ◌*◌}
 use native.Mathlib.Omega.{arith}
 use mathlib.Core.Path.{◌≡◌, sym, ◌∙◌}
 use lib.ListN.{length, drop, length-drop}
-use borrow.Author.Rules.{rules}
 use Rattle.math.specs.Vectors.{points, points_short}
 use Rattle.mesh.specs.Boxes.{include_all, mesh_box, include_all_next}
 use Rattle.mesh.proofs.boxes.mesh_box.Goals as goal

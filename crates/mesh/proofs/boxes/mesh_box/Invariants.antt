@@ -1,12 +1,10 @@
 -- `mesh_box` meets its contract. The invariant: the box so far, grown by the vertices from v on, is the mesh's box. The measure is the
 -- vertices that are left.
-use Prim.Native.Nat.{◌≤◌, ◌<◌, ◌-◌, ◌*◌}
-use native.Mathlib.Omega.{arith}
-use mathlib.Core.Path.{◌≡◌, sym, ◌∙◌}
-use lib.ListN.{length, drop, length-drop}
-use borrow.Author.Rules.{rules}
-use Rattle.math.specs.Vectors.{points, points_short}
-use Rattle.mesh.specs.Boxes.{include_all, mesh_box, include_all_next}
+use Prim.Native.Nat.{◌≤◌, ◌-◌, ◌*◌}
+use mathlib.Core.Path.{◌≡◌}
+use lib.ListN.{drop}
+use Rattle.math.specs.Vectors.{points}
+use Rattle.mesh.specs.Boxes.{include_all, mesh_box}
 use Rattle.mesh.proofs.boxes.mesh_box.Given as goal
 
 abbrev pub invariant-loop-v : goal.invariant-loop-v

@@ -1,5 +1,4 @@
 -- `prepare` meets its contract: the calls promise the parts of the definition.
-use borrow.Author.Rules.{rules}
 use Rattle.mesh.specs.Boxes.{prepare}
 use Rattle.mesh.proofs.boxes.prepare.Goals as goal
 

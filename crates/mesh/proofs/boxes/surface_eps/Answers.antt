@@ -1,5 +1,4 @@
 -- `surface_eps` meets its contract: the calls promise the parts of the definition.
-use borrow.Author.Rules.{rules}
 use Rattle.mesh.specs.Boxes.{surface_eps}
 use Rattle.mesh.proofs.boxes.surface_eps.Goals as goal
 

@@ -1,5 +1,4 @@
 -- `triangle_box` meets its contract: the calls promise the parts of the definition.
-use borrow.Author.Rules.{rules}
 use Rattle.mesh.specs.Boxes.{triangle_box}
 use Rattle.mesh.proofs.boxes.triangle_box.Goals as goal
 

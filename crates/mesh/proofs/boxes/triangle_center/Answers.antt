@@ -1,5 +1,4 @@
 -- `triangle_center` meets its contract: the calls promise the parts of the definition.
-use borrow.Author.Rules.{rules}
 use Rattle.mesh.specs.Boxes.{triangle_center}
 use Rattle.mesh.proofs.boxes.triangle_center.Goals as goal
 

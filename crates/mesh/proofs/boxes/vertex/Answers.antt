@@ -1,5 +1,4 @@
 -- `vertex` meets its contract: the calls promise the parts of the definition.
-use borrow.Author.Rules.{rules}
 use Rattle.mesh.specs.Boxes.{vertex}
 use Rattle.mesh.proofs.boxes.vertex.Goals as goal
 

@@ -2,7 +2,6 @@
 use Prim.Native.Nat.{◌+◌, ◌*◌, ◌<◌}
 use native.Mathlib.Omega.{arith}
 use lib.ListN.{length}
-use borrow.Author.Rules.{rules}
 use Rattle.mesh.specs.Triangles.{start_from}
 use Rattle.mesh.specs.TriangleLaws.{some_face}
 use Rattle.mesh.proofs.triangles.face_of.Goals as goal

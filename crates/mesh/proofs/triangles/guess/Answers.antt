@@ -2,7 +2,6 @@
 use Prim.Native.Nat.{◌*◌, ◌≤◌, ◌<◌}
 use native.Mathlib.Nat.{mul-le-mul, mul-lt-mul_of_pos_left, div-lt_iff_lt-mul, mul_comm}
 use native.Mathlib.Omega.{arith}
-use borrow.Author.Rules.{rules}
 use Rattle.mesh.proofs.triangles.guess.Goals as goal
 
 pub overflow_mul-result : goal.overflow_mul-result

@@ -1,8 +1,6 @@
-use Prim.Native.Nat.{◌+◌, ◌*◌, ◌/◌, ◌≤◌, ◌<◌, ◌-◌}
+use Prim.Native.Nat.{◌+◌, ◌/◌, ◌-◌}
 use native.Mathlib.Omega.{arith}
 use mathlib.Core.Path.{◌≡◌}
-use lib.ListN.{length}
-use borrow.Author.Rules.{rules}
 use Rattle.mesh.specs.Triangles.{start_from}
 use Rattle.mesh.specs.TriangleLaws.{start_from_before, start_from_next, some_face}
 use Rattle.mesh.proofs.triangles.search.Goals as goal

@@ -1,12 +1,8 @@
 -- `search` meets its contract. The invariant: triangle t does not come before face lo, and it comes before face hi. The measure is the
 -- distance of the two.
-use Prim.Native.Nat.{◌+◌, ◌*◌, ◌/◌, ◌≤◌, ◌<◌, ◌-◌}
-use native.Mathlib.Omega.{arith}
-use mathlib.Core.Path.{◌≡◌}
+use Prim.Native.Nat.{◌+◌, ◌*◌, ◌≤◌, ◌<◌, ◌-◌}
 use lib.ListN.{length}
-use borrow.Author.Rules.{rules}
 use Rattle.mesh.specs.Triangles.{start_from}
-use Rattle.mesh.specs.TriangleLaws.{start_from_before, start_from_next, some_face}
 use Rattle.mesh.proofs.triangles.search.Given as goal
 
 abbrev pub invariant-loop-lo : goal.invariant-loop-lo

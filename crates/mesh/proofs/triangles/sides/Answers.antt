@@ -1,6 +1,5 @@
 -- `sides` meets its contract: its tests are those of the definition.
 use mathlib.Core.Path.{sym, ◌∙◌}
-use borrow.Author.Rules.{rules}
 use Rattle.mesh.specs.Triangles.{sides}
 use Rattle.mesh.proofs.triangles.sides.Goals as goal
 

@@ -2,7 +2,6 @@
 use Prim.Native.Nat.{◌-◌}
 use native.Mathlib.Omega.{arith}
 use mathlib.Core.Path.{sym}
-use borrow.Author.Rules.{rules}
 use Rattle.mesh.specs.Triangles.{start_from}
 use Rattle.mesh.specs.TriangleLaws.{start_from_before}
 use Rattle.mesh.proofs.triangles.start_of.Goals as goal

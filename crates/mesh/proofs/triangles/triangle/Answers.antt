@@ -3,7 +3,6 @@
 use Prim.Native.Nat.{◌+◌, ◌*◌, ◌/◌}
 use native.Mathlib.Omega.{arith}
 use mathlib.Core.Path.{◌≡◌, sym, ◌∙◌}
-use borrow.Author.Rules.{rules}
 use Rattle.mesh.specs.Triangles.{triangle, start_from}
 use Rattle.mesh.specs.TriangleLaws.{triangles_at, in_corners, in_triangle, in_quad, placed}
 use Rattle.mesh.proofs.triangles.triangle.Goals as goal

@@ -1,11 +1,9 @@
-use Prim.Native.Nat.{◌-◌, ◌/◌, ◌≤◌}
+use Prim.Native.Nat.{◌/◌}
 use native.Mathlib.Omega.{arith}
 use mathlib.Core.Path.{◌≡◌, refl, sym, ◌∙◌}
-use lib.ListN.{length, take, length-set}
-use borrow.Author.Rules.{rules}
-use Rattle.lent.specs.Over.{over, over_nothing}
+use lib.ListN.{length, length-set}
+use Rattle.lent.specs.Over.{over_nothing}
 use Rattle.mesh.specs.Mesh.{mesh}
-use Rattle.polyhedron.specs.Lists.{answers_to}
 use Rattle.polyhedron.specs.ListLaws.{answers_next, answers_all}
 use Rattle.polyhedron.proofs.lists.answer_points.Goals as goal
 

@@ -1,13 +1,10 @@
 -- `answer_points` meets its contract. The invariant: the first i answers are written. The measure is the points that are left.
-use Prim.Native.Nat.{◌-◌, ◌/◌, ◌≤◌}
-use native.Mathlib.Omega.{arith}
-use mathlib.Core.Path.{◌≡◌, refl, sym, ◌∙◌}
-use lib.ListN.{length, take, length-set}
-use borrow.Author.Rules.{rules}
-use Rattle.lent.specs.Over.{over, over_nothing}
+use Prim.Native.Nat.{◌-◌, ◌≤◌}
+use mathlib.Core.Path.{◌≡◌}
+use lib.ListN.{length, take}
+use Rattle.lent.specs.Over.{over}
 use Rattle.mesh.specs.Mesh.{mesh}
 use Rattle.polyhedron.specs.Lists.{answers_to}
-use Rattle.polyhedron.specs.ListLaws.{answers_next, answers_all}
 use Rattle.polyhedron.proofs.lists.answer_points.Given as goal
 
 abbrev pub invariant-loop-i : goal.invariant-loop-i

@@ -1,7 +1,5 @@
 -- `ask_list` meets its contract: its steps are the definition's.
 use mathlib.Core.Path.{sym, ◌∙◌}
-use borrow.Author.Rules.{rules}
-use borrow.Author.Tests.{not-true, not-false}
 use Rattle.polyhedron.specs.Lists.{ask_list}
 use Rattle.polyhedron.specs.ListLaws.{list_short}
 use Rattle.polyhedron.proofs.lists.ask_list.Goals as goal

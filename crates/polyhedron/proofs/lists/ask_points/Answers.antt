@@ -1,6 +1,5 @@
 -- `ask_points` meets its contract: the first point that is not finite is the one that is refused.
 use mathlib.Core.Path.{sym}
-use borrow.Author.Rules.{rules}
 use borrow.Author.Tests.{lt-ltb, le-ltb}
 use Rattle.refusal.specs.declared.Refusal.TheVariants.{Point}
 use Rattle.mesh_questions.specs.QuestionLaws.{ask_finite_points}

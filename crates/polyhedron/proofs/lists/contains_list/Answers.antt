@@ -1,6 +1,5 @@
 -- `contains_list` meets its contract: the calls promise the verdicts, the work places and the answers, and `ListLaws` leads from there to `Contains`.
 use mathlib.Core.Path.{sym, ◌∙◌}
-use borrow.Author.Rules.{rules}
 use Rattle.edges.specs.EdgeLaws.{accepted_below}
 use Rattle.polyhedron.specs.ListLaws.{refused_tree, refused_list, accepted_list, room_left, answerable, answered}
 use Rattle.polyhedron.proofs.lists.contains_list.Goals as goal

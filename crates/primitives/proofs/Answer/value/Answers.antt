@@ -1,5 +1,4 @@
 -- `Answer::value` meets its contract: a refusal's number is what `Refusal::code` promises.
-use borrow.Author.Rules.{rules}
 use Rattle.primitives.proofs.Answer.value.Goals as goal
 
 pub returns-in-Refused : goal.returns-in-Refused

@@ -2,7 +2,6 @@
 use Rattle.mesh.specs.Fans.{length_fans}
 use Rattle.edges.specs.EdgeLaws.{accepted_below}
 use native.Mathlib.Omega.{arith}
-use borrow.Author.Rules.{rules}
 use Rattle.probes.proofs.meshes.probe_mesh.Goals as goal
 
 pub overflow_sub-corners : goal.overflow_sub-corners

@@ -3,9 +3,6 @@ use Prim.Native.Nat.{◌-◌, ◌≤◌}
 use mathlib.Core.Path.{◌≡◌}
 use lib.ListN.{length}
 use Rattle.mesh.specs.Triangles as Triangles
-use Rattle.mesh.specs.Corners.{triangle_corners}
-use borrow.Author.Rules.{rules}
-use native.Mathlib.Omega.{arith}
 use Rattle.probes.proofs.meshes.put_triangles.Given as goal
 
 abbrev pub invariant-loop-t : goal.invariant-loop-t

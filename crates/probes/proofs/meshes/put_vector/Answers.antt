@@ -1,6 +1,5 @@
 -- `put_vector` is safe: a store leaves the list its length.
 use lib.ListN.{length-set}
-use borrow.Author.Rules.{rules}
 use native.Mathlib.Omega.{arith}
 use Rattle.probes.proofs.meshes.put_vector.Goals as goal
 

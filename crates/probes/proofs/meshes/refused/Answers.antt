@@ -6,7 +6,6 @@ use Rattle.refusal.specs.declared.Refusal.{Refusal}
 use Rattle.refusal.specs.declared.Refusal.TheVariants.{Coordinates, Faces, ShortFace, CornerOut, NotFinite, Room, Tree, PointList, Point, ShapeNumber, Entries, Line}
 use Rattle.refusal.specs.Numbers.{number}
 use Rattle.mesh_questions.specs.Accepted.{asked}
-use borrow.Author.Rules.{rules}
 use native.Mathlib.Omega.{arith}
 use Rattle.probes.proofs.meshes.refused.Goals as goal
 

@@ -1,7 +1,6 @@
 -- `Refusal::code` meets its contract: a number is at most 12 and a place below 2^32, so the sum fits.
 use native.Mathlib.Omega.{arith}
 use Rattle.refusal.specs.Numbers.{number_le}
-use borrow.Author.Rules.{rules}
 use Rattle.refusal.proofs.Refusal.code.Goals as goal
 
 pub overflow_mul-result : goal.overflow_mul-result

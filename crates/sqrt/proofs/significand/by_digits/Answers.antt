@@ -1,4 +1,4 @@
-use Prim.Native.Nat.{ℕ, ◌-◌, ◌%◌, ◌^◌, ◌≤◌}
+use Prim.Native.Nat.{ℕ, ◌%◌, ◌^◌}
 use mathlib.Core.Path.{◌≡◌, subst}
 use native.Mathlib.Omega.{arith}
 use Rattle.sqrt.proofs.DigitRoot.{Digits, zero_digit, one_digit, last_root, root_bound}
@@ -45,8 +45,8 @@ pub loop-i-preserved : goal.loop-i-preserved
 loop-i-preserved c =
     let d = c.loop-i.invariant.1 in
     elim c.if-root-over.branch [
-      then-root-over w ↦ (omega arith, rw (w.root-is, w.over-is) (one_digit _ _ _ _ _ d w.if-root-over.true))
-    | else-root-over w ↦ (omega arith, rw (w.root-is, w.over-is) (zero_digit _ _ _ _ _ d w.if-root-over.false))
+      | then-root-over w ↦ (omega arith, rw (w.root-is, w.over-is) (one_digit _ _ _ _ _ d w.if-root-over.true))
+      | else-root-over w ↦ (omega arith, rw (w.root-is, w.over-is) (zero_digit _ _ _ _ _ d w.if-root-over.false))
     ]
 
 -- all digits are found

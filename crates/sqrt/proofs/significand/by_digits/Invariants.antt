@@ -1,9 +1,6 @@
 -- `significand::by_digits` meets its contract. The invariant: at most 54 digits are found, and they are the first of the root (`Digits`). The measure is the digits still to find.
-use Prim.Native.Nat.{ℕ, ◌-◌, ◌%◌, ◌^◌, ◌≤◌}
-use mathlib.Core.Path.{◌≡◌, subst}
-use mathlib.Core.Logic.{⊎_elim}
-use native.Mathlib.Omega.{arith}
-use Rattle.sqrt.proofs.DigitRoot.{Digits, zero_digit, one_digit, last_root, root_bound}
+use Prim.Native.Nat.{◌-◌, ◌%◌, ◌^◌, ◌≤◌}
+use Rattle.sqrt.proofs.DigitRoot.{Digits}
 use Rattle.sqrt.proofs.significand.by_digits.Given as goal
 
 abbrev pub invariant-loop-i : goal.invariant-loop-i

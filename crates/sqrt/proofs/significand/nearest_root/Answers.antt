@@ -8,7 +8,6 @@ use Rattle.sqrt.specs.Root.{nearest_root}
 use Rattle.sqrt.specs.Steps.{Finds}
 use Rattle.sqrt.proofs.Settling.{product_fits}
 use Rattle.sqrt.proofs.RootBits.{doubled, twice}
-use borrow.Author.Rules.{rules}
 use Rattle.sqrt.proofs.significand.nearest_root.Goals as goal
 
 -- by_digits takes 54 digits of its argument, which are all of w

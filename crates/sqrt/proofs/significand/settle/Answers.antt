@@ -4,7 +4,6 @@ use Prim.Native.Nat.{◌+◌, ◌*◌, ◌^◌}
 use native.Mathlib.Nat.{sub-pos_iff_lt}
 use native.Mathlib.Omega.{arith}
 use lib.Dec.{lit≤}
-use borrow.Author.Rules.{rules}
 use Rattle.sqrt.proofs.Settling.{u_of, difference, first_candidate, second_candidate, third_candidate, product_fits, bounds_fit}
 use Rattle.sqrt.proofs.significand.settle.Goals as goal
 

@@ -1,6 +1,5 @@
 -- `advance` meets its contract: case by case.
 use mathlib.Core.Path.{refl}
-use borrow.Author.Rules.{rules}
 use Rattle.walks.proofs.nodes.advance.Goals as goal
 
 pub returns-then-enters : goal.returns-then-enters

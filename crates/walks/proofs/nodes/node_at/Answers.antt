@@ -1,5 +1,4 @@
 -- `node_at` meets its contract: the two numbers of the node.
-use borrow.Author.Rules.{rules}
 use native.Mathlib.Omega.{arith}
 use Prim.Native.Nat.{◌+◌, ◌*◌}
 use Rattle.walks.proofs.nodes.node_at.Goals as goal

@@ -1,6 +1,5 @@
 -- `raised` meets its contract.
 use mathlib.Core.Path.{refl}
-use borrow.Author.Rules.{rules}
 use Rattle.walks.proofs.nodes.raised.Goals as goal
 
 pub returns-then-more : goal.returns-then-more

@@ -1,5 +1,4 @@
 -- `Vote::with` meets its contract: its cases are those of the definition.
-use borrow.Author.Rules.{rules}
 use Rattle.scan.specs.ScanLaws.{with_found}
 use Rattle.scan.proofs.votes.Vote.with.Goals as goal
 

@@ -1,5 +1,4 @@
 -- `Votes::counted` meets its contract: its cases are those of the definition.
-use borrow.Author.Rules.{rules}
 use Rattle.scan.specs.Scan.{counted}
 use Rattle.scan.proofs.votes.Votes.counted.Goals as goal
 
