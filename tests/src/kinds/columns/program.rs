@@ -47,8 +47,7 @@ impl<'a> Outcome<'a> {
         }
     }
 
-    /// As it should be where the input cannot be read. A Rattle program has no exit
-    /// status of its own.
+    /// As it should be where the input cannot be read.
     const UNREAD: Self = Self {
         status: Some(0),
         output: &[],
