@@ -7,3 +7,4 @@ pub mod TotalOrder
 pub mod Order
 pub mod Patterns
 pub mod OrderTheorems
+pub mod Remainder

@@ -2,6 +2,8 @@
 // are in specs/Rules.antt and specs/TotalOrder.antt, the theorems about them in specs/OrderTheorems.antt.
 #![tactic(auto)]
 
+mod remainder;
+
 ghost use Rattle.std.specs.Prelude.{◌≡◌};
 ghost use Rattle.float.specs.Order.{Number};
 ghost use Rattle.float.specs.Rules as Rules;
@@ -73,7 +75,7 @@ pub fn is_finite(x: f64) -> bool
 pub fn rem_euclid(a: f64, b: f64) -> f64
     ensures { result ≡ Rules.rem_euclid a b }
 {
-    let r = a % b;
+    let r = remainder::remainder(a, b);
     if r < 0.0 { r + abs(b) } else { r }
 }
 

@@ -10,8 +10,8 @@ zero_bits = refl
 
 pub returns-then-r : goal.returns-then-r
 unfolding rem_euclid
-returns-then-r c = rw (c.abs.ensures, rw zero_bits at c.if-r.true)
+returns-then-r c = rw (c.abs.ensures, ← c.remainder-r.ensures, rw zero_bits at c.if-r.true)
 
 pub returns-else-r : goal.returns-else-r
 unfolding rem_euclid
-returns-else-r c = rw (rw zero_bits at c.if-r.false)
+returns-else-r c = rw (← c.remainder-r.ensures, rw zero_bits at c.if-r.false)

@@ -54,7 +54,7 @@ number_lt f t g u h k l = go (ltb f g) (ltb→lt f g) (nltb→le f g)
 pub magnitude : ℕ → ℕ
 magnitude a = number (a / 2 ^ 52) (a % 2 ^ 52)
 
-magnitude_grows : (a b : ℕ) → a < b → magnitude a < magnitude b
+pub magnitude_grows : (a b : ℕ) → a < b → magnitude a < magnitude b
 unfolding magnitude
 magnitude_grows a b h = number_lt (a / 2 ^ 52) (a % 2 ^ 52) (b / 2 ^ 52) (b % 2 ^ 52) (mod-lt a (pow_pos 52)) (mod-lt b (pow_pos 52)) (omega arith)
 
@@ -110,7 +110,7 @@ lt_pattern x y fx fy nx ny =
 
 -- ---- the size of a finite value, and where the finite ones end
 
-infinity_magnitude : magnitude (2047 * 2 ^ 52) ≡ 2 ^ 2098
+pub infinity_magnitude : magnitude (2047 * 2 ^ 52) ≡ 2 ^ 2098
 unfolding magnitude number
 infinity_magnitude = refl
 

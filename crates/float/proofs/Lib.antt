@@ -1,0 +1,2 @@
+-- The lemmas of the proofs of crate `float`.
+pub mod Rests
