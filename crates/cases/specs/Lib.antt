@@ -1,3 +1,2 @@
--- Document 01's starred cases: the table, and that every row holds.
+-- Document 01's starred cases: the table. That every row holds is proofs/TableTheorem.antt.
 pub mod Table
-pub mod TableTheorem
