@@ -2,7 +2,7 @@
 use Rattle.std.specs.Prelude.{◌≡◌, Float}
 use Rattle.std.specs.Float.{binary64}
 use Rattle.float.specs.Order.{Alike, alike_refl, alike_trans, add_alike, sub_alike, mul_alike, min_alike, max_alike, le_alike}
-use Rattle.sqrt.specs.RootTheorem.{root_alike}
+use Rattle.sqrt.proofs.RootTheorem.{root_alike}
 use Rattle.math.specs.declared.Vec3.{Vec3}
 use Rattle.math.specs.declared.BoundingBox.{BoundingBox}
 use Rattle.math.specs.Vectors as Vectors

@@ -7,7 +7,7 @@ use native.Mathlib.Numerals.{add-one}
 use native.Mathlib.Omega.{arith}
 use lib.Pow.{pow_mono}
 use Rattle.sqrt.specs.Root.{isqrt, nearest_root}
-use Rattle.sqrt.specs.RootTheorem.Squares.{Floor, floor_unique, isqrt_floor}
+use Rattle.sqrt.proofs.RootTheorem.Squares.{Floor, floor_unique, isqrt_floor}
 
 pub record Digits (w i rest root over : ℕ) : Type 0 where
   pub value : (root * root + over) * 2 ^ 54 + rest ≡ w * 4 ^ i

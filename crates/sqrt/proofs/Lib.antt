@@ -1,3 +1,4 @@
+pub mod RootTheorem
 mod DigitRoot
 mod Settling
 mod RootBits

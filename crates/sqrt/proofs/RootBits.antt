@@ -17,9 +17,9 @@ use Rattle.float.specs.Order.{lt_number_right}
 use Rattle.float.specs.OrderTheorems.{sign_bit_lem}
 use Rattle.float.specs.OrderTheorems.Pattern.{magnitude, rest, finite_pattern, infinite_pattern, quanta_pattern, magnitude_subnormal}
 use Rattle.sqrt.specs.Root.{nearest_root, root_of, root}
-use Rattle.sqrt.specs.RootTheorem.Squares.{nearest_low, nearest_high, nearest_root_nearest}
-use Rattle.sqrt.specs.RootTheorem.Cases.{root_positive, positive_sign}
-use Rattle.sqrt.specs.RootTheorem.Scale.{by_parity, scaled_range, root_of_is, moved_up, pow_cancel}
+use Rattle.sqrt.proofs.RootTheorem.Squares.{nearest_low, nearest_high, nearest_root_nearest}
+use Rattle.sqrt.proofs.RootTheorem.Cases.{root_positive, positive_sign}
+use Rattle.sqrt.proofs.RootTheorem.Scale.{by_parity, scaled_range, root_of_is, moved_up, pow_cancel}
 
 -- the significand, doubled for an odd exponent, has 54 digits at most
 pub doubled : (m o : ℕ) → m * (1 + o % 2) * 2 ^ 52 ≡ m * 2 ^ (52 + o % 2)

@@ -5,7 +5,7 @@ use native.Mathlib.Nat.{lt_of_lt_of_le, lt_of_le_of_lt, le_trans, le_of_eq, le_o
 use native.Mathlib.Omega.{arith}
 use lib.Pow.{pow-add, pow_pos, pow_mono}
 use Rattle.sqrt.specs.Root.{nearest_root}
-use Rattle.sqrt.specs.RootTheorem.Squares.{Nearest, nearest_is}
+use Rattle.sqrt.proofs.RootTheorem.Squares.{Nearest, nearest_is}
 
 -- u for the guess p, from its front: with p = a * 2^26 + b, what is left of w without a * a, of that without 2 * a * b, and of that without b * b
 abbrev pub rest₁ : ℕ → ℕ → ℕ

@@ -5,7 +5,7 @@ use lib.Dec.{T}
 use lib.Ieee.{binary64, of_bits, fits, lt, div}
 use denote.Floats.{passes}
 use Rattle.float.specs.Rules.{zero64}
-use Rattle.sqrt.specs.RootTheorem.Cases.{root_at_zero, root_none}
+use Rattle.sqrt.proofs.RootTheorem.Cases.{root_at_zero, root_none}
 use Rattle.sqrt.proofs.RootBits.{number, root_infinite, root_scaled, bits_positive}
 use Rattle.sqrt.proofs.root.Goals as goal
 

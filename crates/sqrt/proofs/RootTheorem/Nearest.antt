@@ -18,10 +18,10 @@ use Rattle.float.specs.TotalOrder.{negative}
 use Rattle.float.specs.OrderTheorems.Value.{Is, Size, of_finite, lt_size, quanta_size}
 use Rattle.float.specs.OrderTheorems.Pattern.{of_pattern}
 use Rattle.sqrt.specs.Root.{root, nearest_root, IsNearestRoot}
-use Rattle.sqrt.specs.RootTheorem.Squares.{Nearest, nearest_low, nearest_high, nearest_root_nearest}
-use Rattle.sqrt.specs.RootTheorem.Scale.{scaled_range, root_of_is, moved_up, pow_cancel}
-use Rattle.sqrt.specs.RootTheorem.Grid.{OnGrid, quanta_grid, quanta_odd, mid_below, mid_above}
-use Rattle.sqrt.specs.RootTheorem.Cases.{root_positive}
+use Rattle.sqrt.proofs.RootTheorem.Squares.{Nearest, nearest_low, nearest_high, nearest_root_nearest}
+use Rattle.sqrt.proofs.RootTheorem.Scale.{scaled_range, root_of_is, moved_up, pow_cancel}
+use Rattle.sqrt.proofs.RootTheorem.Grid.{OnGrid, quanta_grid, quanta_odd, mid_below, mid_above}
+use Rattle.sqrt.proofs.RootTheorem.Cases.{root_positive}
 
 -- ---- 53 digits
 -- a number of at most 53 digits, moved up to have 53

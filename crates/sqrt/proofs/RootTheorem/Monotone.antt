@@ -12,8 +12,8 @@ use Rattle.float.specs.TotalOrder.{negative}
 use Rattle.float.specs.Order.{finite_number, le_number_left, le_trans, le_antisym, le_top, le_not_lt, lt_le, lt_le_trans, lt_irrefl, eq_le}
 use Rattle.float.specs.OrderTheorems.Value.{lt_size}
 use Rattle.sqrt.specs.Root.{root}
-use Rattle.sqrt.specs.RootTheorem.Cases.{positive_sign, root_at_zero}
-use Rattle.sqrt.specs.RootTheorem.Nearest.{sized, nearest_root_lem}
+use Rattle.sqrt.proofs.RootTheorem.Cases.{positive_sign, root_at_zero}
+use Rattle.sqrt.proofs.RootTheorem.Nearest.{sized, nearest_root_lem}
 
 plus : (x : Float) → T (lt zero64 x) → negative x ≡ false
 plus x p = positive_sign x (is_true (lt zero64 x) p)

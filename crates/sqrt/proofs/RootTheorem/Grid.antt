@@ -12,7 +12,7 @@ use Rattle.std.specs.Float.Ieee.Digits.{Equals, odd_val}
 use Rattle.std.specs.Float.Ieee.Fits.{and_l, and_r, down_pos}
 use Rattle.std.specs.Float.Ieee.Scale.{finite}
 use Rattle.float.specs.Quanta.{quanta}
-use Rattle.sqrt.specs.RootTheorem.Squares.{Nearest}
+use Rattle.sqrt.proofs.RootTheorem.Squares.{Nearest}
 
 -- ---- quanta
 pub quanta_odd : (d : ℕ) (s : Bool) (q k : ℕ) → quanta (odd d s q k 1074) ≡ q * 2 ^ k
