@@ -1,18 +1,8 @@
 -- `csx_polygon` meets its contract, which is that of `asked` on the polygon.
-use mathlib.Core.Path.{◌≡◌, refl, subst}
-use mathlib.Core.List.{List}
-use Prim.Native.Nat.{ℕ}
-use lib.Ieee.{Float}
-use Rattle.math.specs.declared.Vec3.{Vec3}
-use Rattle.shapes.specs.declared.Shape.{Shape}
+use mathlib.Core.Path.{refl}
 use Rattle.shapes.specs.declared.Shape.TheVariants.{Polygon}
-use Rattle.primitives.specs.Questions.{shape_answer, value}
+use Rattle.c_shapes.proofs.Same.{of_same}
 use Rattle.c_shapes.proofs.csx_polygon.Goals as goal
-
--- the answer for a shape is that for the same shape: so a wrong shape is refused without a look into its rule
-of_same : (list : List Float) (p : Vec3) (result : ℕ) (s t : Shape) → result ≡ value (shape_answer s list p) → s ≡ t
-    → result ≡ value (shape_answer t list p)
-of_same list p result s t h e = subst (λ (x : Shape). result ≡ value (shape_answer x list p)) e h
 
 pub asked-requires : goal.asked-requires
 asked-requires c = tt

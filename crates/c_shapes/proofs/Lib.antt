@@ -1,0 +1,2 @@
+-- The lemma that the C functions of shapes share.
+pub mod Same
