@@ -1,4 +1,4 @@
--- What the C function for column text promises: the number returned, and how the buffer is left. Definitions only.
+-- What the function for column text promises to C: the number returned, and how the buffer is left. Definitions only.
 use Rattle.std.specs.Prelude.{ℕ, ◌≡◌, List, length}
 use Rattle.lent.specs.Over.{over}
 use Rattle.refusal.specs.Verdicts.{returned}

@@ -1,4 +1,4 @@
--- What the C function that answers a list promises: the number returned, and how the two buffers are left. Definitions only.
+-- What the function that answers a list promises to C: the number returned, and how the two buffers are left. Definitions only.
 use Rattle.std.specs.Prelude.{ℕ, ◌≡◌, List, Float, length}
 use Rattle.lent.specs.Over.{over}
 use Rattle.refusal.specs.Verdicts.{returned}

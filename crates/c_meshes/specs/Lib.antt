@@ -1,4 +1,4 @@
--- The definitions of crate `c_meshes`: what its C functions promise beyond the entries that they call.
+-- The definitions of crate `c_meshes`: what its functions promise to C beyond the entries that they call.
 pub mod Welding
 pub mod Trees
 pub mod ReadBack

@@ -1,2 +1,2 @@
--- The lemma that the C functions of shapes share.
+-- The lemma that functions of shapes share.
 pub mod Same

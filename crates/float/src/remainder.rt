@@ -89,6 +89,7 @@ pub fn remainder(a: f64, b: f64) -> f64
     if y == 0 {
         return 0.0 / 0.0;
     }
+    // taken apart before the next test, so that the size of `a` is known where `a` is returned too
     let from = size_of_pattern(x);
     if x < y {
         return a;

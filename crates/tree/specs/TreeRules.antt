@@ -31,7 +31,7 @@ pub data Subtree (m : Mesh) (t : Tree) : (depth n i node item : ℕ) → Type 0 
 
 -- the rules
 pub record TreeRules (m : Mesh) (t : Tree) : Type 0 where
-  -- the lists have exactly the lengths that the tree needs; nodeCount is half of `nodes`, rounded down, so no number is left over there
+  -- the lists have exactly the lengths that the tree needs; `node_count` is half of `nodes`, rounded down, so no number is left over there
   pub boxes : length t.boxes ≡ 6 * node_count t
   pub nodes : length t.nodes ≡ 2 * node_count t
   pub items : length t.items ≡ triangle_count m
