@@ -1,4 +1,6 @@
 // Words of standard input: 16 hexadecimal digits, in small letters, and one byte more.
+ghost use Rattle.std.specs.Prelude.{◌≤◌, length};
+
 use std::io::Read;
 
 // Stands for what is no number. It is the pattern of a NaN, which no record has.
@@ -27,7 +29,9 @@ pub fn number(text: &[u8; 17]) -> u64 {
 }
 
 // Reads until the buffer is full, the input ends or a read fails. Returns how many bytes were read.
-pub fn read_full(input: &mut impl Read, buffer: &mut [u8]) -> usize {
+pub fn read_full(input: &mut impl Read, buffer: &mut [u8]) -> usize
+    ensures { result ≤ length buffer.new }
+{
     let mut done = 0;
     while done < buffer.len() {
         match input.read(&mut buffer[done..]) {
