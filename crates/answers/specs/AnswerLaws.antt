@@ -4,9 +4,7 @@ use Rattle.std.proofs.Common.{arith, sym, ◌∙◌}
 use borrow.Author.Tests.{le-leb}
 use Rattle.lent.specs.Over.{over, over_whole, take_over, length_over}
 use Rattle.refusal.specs.declared.Refusal.{Refusal}
-use Rattle.refusal.specs.declared.Verdict.{Verdict}
-use Rattle.refusal.specs.declared.Verdict.TheVariants.{Passed}
-use Rattle.refusal.specs.Verdicts.{written}
+use Rattle.refusal.specs.Verdicts.{Passed, Verdict, written}
 use Rattle.mesh_questions.specs.Accepted.{accepted}
 use Rattle.mesh.specs.Mesh.{Mesh, triangle_count}
 use Rattle.tree.specs.Tree.{tree, node_count}

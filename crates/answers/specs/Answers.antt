@@ -1,6 +1,6 @@
 -- What the answers to the points of a small mesh ask for. Definitions only.
 use Rattle.std.specs.Prelude.{ℕ, ◌*◌, ◌≤◌, ◌≡◌, List, Float, length}
-use Rattle.refusal.specs.declared.Verdict.TheVariants.{Passed}
+use Rattle.refusal.specs.Verdicts.{Passed}
 use Rattle.mesh.specs.Mesh.{Mesh}
 use Rattle.mesh_questions.specs.Questions.{ask_mesh}
 use Rattle.polyhedron.specs.Lists.{ask_list}

@@ -1,10 +1,9 @@
 -- The builder (document 01): questions 1 to 6, what is written into the lent lists, and what the tree over all triangles asks for. Definitions only.
 use Rattle.std.specs.Prelude.{ℕ, ◌*◌, ◌≤◌, ◌<◌, ◌≡◌, Bool, ◌&&◌, List, leb, Float, length}
+use Rattle.std.specs.Prelude.{Ok, Err}
 use Rattle.lent.specs.Over.{over}
 use Rattle.refusal.specs.declared.Refusal.TheVariants as Refusals
-use Rattle.refusal.specs.declared.Verdict.{Verdict}
-use Rattle.refusal.specs.declared.Verdict.TheVariants as Verdicts
-use Rattle.refusal.specs.Verdicts.{ask, then, written}
+use Rattle.refusal.specs.Verdicts.{Passed, Verdict, ask, then, written}
 use Rattle.mesh_questions.specs.Questions.{ask_mesh}
 use Rattle.mesh_questions.specs.Accepted.{Accepted}
 use Rattle.mesh.specs.Mesh.{Mesh, triangle_count}
@@ -29,8 +28,8 @@ verdict m boxes nodes items = ask_build m (length boxes) (length nodes) (length 
 
 -- the answer: the number of nodes of the builder rule's tree unless a question refuses
 unfoldable pub build_answer : Verdict → Mesh → Built
-build_answer Verdicts.Passed m = Nodes (node_count (layout m))
-build_answer (Verdicts.Refused refusal) m = Refused refusal
+build_answer Passed m = Nodes (node_count (layout m))
+build_answer (Err refusal) m = Err refusal
 
 -- what `build` promises: its answer, and of each buffer, lent as ₀ and left as ₁, the list of the builder rule's tree in front and the rest as it was
 pub record Builds (m : Mesh) (boxes₀ : List Float) (nodes₀ items₀ : List ℕ) (result : Built) (boxes₁ : List Float) (nodes₁ items₁ : List ℕ) : Type 0 where

@@ -5,14 +5,13 @@ use Rattle.std.proofs.Math.Path.{sym}
 use Rattle.std.proofs.Math.ListN.{length, drop}
 use Rattle.std.proofs.Math.Seq.{sets}
 use borrow.Author.Tests.{leb-true, eq-eqb, ne_eqb}
+use Rattle.std.specs.Prelude.{Ok, Err}
 use Rattle.keys.specs.Sorting.{sorted}
 use Rattle.keys.specs.SortingTheorems.{length_sorted}
 use Rattle.lent.specs.Over.{over, over_nothing, over_stores}
 use Rattle.refusal.specs.declared.Refusal.{Refusal}
 use Rattle.refusal.specs.declared.Refusal.TheVariants as Refusals
-use Rattle.refusal.specs.declared.Verdict.{Verdict}
-use Rattle.refusal.specs.declared.Verdict.TheVariants as Verdicts
-use Rattle.refusal.specs.Verdicts.{ask, written, ask_passed, then_passed, both}
+use Rattle.refusal.specs.Verdicts.{Passed, Verdict, ask, written, ask_passed, then_passed, both}
 use Rattle.mesh_questions.specs.Questions.{ask_mesh}
 use Rattle.mesh_questions.specs.Accepted.{Accepted, accepted}
 use Rattle.mesh.specs.Triangles as Triangles
@@ -74,12 +73,12 @@ items_written tree n items long = rw long
 
 module _ (m : Mesh) (boxes₀ : List Float) (nodes₀ items₀ : List ℕ) where
   -- a refused call
-  pub builds_refused : (refusal : Refusal) → verdict m boxes₀ nodes₀ items₀ ≡ Verdicts.Refused refusal → Builds m boxes₀ nodes₀ items₀ (Refused refusal) boxes₀ nodes₀ items₀
+  pub builds_refused : (refusal : Refusal) → verdict m boxes₀ nodes₀ items₀ ≡ Err refusal → Builds m boxes₀ nodes₀ items₀ (Err refusal) boxes₀ nodes₀ items₀
   unfolding written build_answer
   builds_refused refusal e =
       record { answer = rw e; boxes = rw e (sym (over_nothing boxes₀)); nodes = rw e (sym (over_nothing nodes₀)); items = rw e (sym (over_nothing items₀)) }
 
-  module _ (passed : verdict m boxes₀ nodes₀ items₀ ≡ Verdicts.Passed) where
+  module _ (passed : verdict m boxes₀ nodes₀ items₀ ≡ Passed) where
     pub accepted_mesh : Accepted m.coords m.corners m.ends
     unfolding ask_build
     accepted_mesh = accepted _ _ _ (then_passed _ _ passed).0
@@ -140,13 +139,13 @@ module _ (m : Mesh) (boxes₀ : List Float) (nodes₀ items₀ : List ℕ) where
 -- ---- what an answer says
 
 -- an answer of nodes: the questions passed, and these are the nodes
-pub answer_nodes : (v : Verdict) (m : Mesh) (count : ℕ) → Nodes count ≡ build_answer v m → (v ≡ Verdicts.Passed) × (count ≡ node_count (layout m))
+pub answer_nodes : (v : Verdict) (m : Mesh) (count : ℕ) → Nodes count ≡ build_answer v m → (v ≡ Passed) × (count ≡ node_count (layout m))
 unfolding build_answer
-answer_nodes Verdicts.Passed m count e = (refl, cc)
-answer_nodes (Verdicts.Refused refusal) m count e = (cc, cc)
+answer_nodes Passed m count e = (refl, cc)
+answer_nodes (Err refusal) m count e = (cc, cc)
 
 -- a refusal: it is the verdict
-pub answer_refused : (v : Verdict) (m : Mesh) (refusal : Refusal) → Refused refusal ≡ build_answer v m → v ≡ Verdicts.Refused refusal
+pub answer_refused : (v : Verdict) (m : Mesh) (refusal : Refusal) → Err refusal ≡ build_answer v m → v ≡ Err refusal
 unfolding build_answer
-answer_refused Verdicts.Passed m refusal e = cc
-answer_refused (Verdicts.Refused other) m refusal e = cc
+answer_refused Passed m refusal e = cc
+answer_refused (Err other) m refusal e = cc

@@ -1,6 +1,6 @@
 -- The check accepts what the builder wrote.
 use Rattle.std.specs.Prelude.{ℕ, ◌≡◌}
-use Rattle.refusal.specs.declared.Verdict.TheVariants.{Passed}
+use Rattle.refusal.specs.Verdicts.{Passed}
 use Rattle.mesh.specs.Mesh.{Mesh}
 use Rattle.builder.specs.Builder.{layout}
 use Rattle.builder.specs.BuilderTheorem.{layout_rules}

@@ -2,10 +2,9 @@
 -- and a listing has at most 5,130 bytes.
 use Rattle.std.specs.Prelude.{ℕ, ◌+◌, ◌≤◌, ◌≡◌, refl, Bool, true, false, cond, List, [], ◌∷◌, leb, length}
 use Rattle.std.proofs.Common.{arith, ap}
+use Rattle.std.specs.Prelude.{Ok, Err}
 use Rattle.refusal.specs.declared.Refusal.TheVariants as Refusals
-use Rattle.refusal.specs.declared.Verdict.{Verdict}
-use Rattle.refusal.specs.declared.Verdict.TheVariants.{Passed, Refused}
-use Rattle.refusal.specs.Verdicts.{written}
+use Rattle.refusal.specs.Verdicts.{Passed, Verdict, written}
 use Rattle.refusal.specs.Places.{Below, below_refused}
 use Rattle.mesh.specs.Places.{below_room}
 use Rattle.polyhedron.specs.Lists.{answers_to}
@@ -57,7 +56,7 @@ below_column text room = below_judged (judged text) (lines text) room (λ n e. b
 written_length : (v : Verdict) (l : List ℕ) (n : ℕ) → length l ≤ n → length (written v l) ≤ n
 unfolding written
 written_length Passed l n h = h
-written_length (Refused refusal) l n h = omega arith
+written_length (Err refusal) l n h = omega arith
 
 listing_length_lem : (text : List ℕ) (j : Judged) → judged text ≡ j → length (column_listing j (lines text)) ≤ 5130
 unfolding column_listing listing_length

@@ -8,9 +8,9 @@ use lib.Dec.{leb}
 use lib.Ieee.{Float}
 use lib.ListN.{length, set}
 use borrow.Author.Tests.{le-leb}
+use Rattle.std.specs.Prelude.{Ok, Err}
 use Rattle.lent.specs.Over.{over, over_stores}
 use Rattle.refusal.specs.declared.Refusal.{Refusal}
-use Rattle.refusal.specs.declared.Verdict.TheVariants.{Refused}
 use Rattle.refusal.specs.Numbers.{code}
 use Rattle.refusal.specs.Verdicts.{written}
 use Rattle.weld.specs.declared.Welded.{Welded}
@@ -20,7 +20,7 @@ use Rattle.weld.specs.Passed.{answer_sizes, answer_refused}
 use Rattle.c_meshes.specs.Welding.{verdict, sizes_of, Welds}
 
 -- a refused call changes nothing
-pub refused : (triangles coords : List Float) (corners ends sizes : List ℕ) (refusal : Refusal) → verdict triangles coords corners ends sizes ≡ Refused refusal → Welds triangles coords corners ends sizes (code refusal) coords corners ends sizes
+pub refused : (triangles coords : List Float) (corners ends sizes : List ℕ) (refusal : Refusal) → verdict triangles coords corners ends sizes ≡ Err refusal → Welds triangles coords corners ends sizes (code refusal) coords corners ends sizes
 unfolding written over
 refused triangles coords corners ends sizes refusal e =
     record { answer = rw e; coords = rw e; corners = rw e; ends = rw e; sizes = rw e }

@@ -3,8 +3,7 @@
 use Rattle.std.specs.Prelude.{ℕ, ◌/◌, ◌<◌, ◌≡◌, refl, List, leb, Float, length}
 use Rattle.std.proofs.Common.{arith}
 use Rattle.refusal.specs.declared.Refusal.TheVariants as Refusals
-use Rattle.refusal.specs.declared.Verdict.TheVariants.{Passed}
-use Rattle.refusal.specs.Verdicts.{ask, then, ask_passed, then_passed}
+use Rattle.refusal.specs.Verdicts.{Passed, ask, then, ask_passed, then_passed}
 use Rattle.refusal.specs.Places.{Below, below_ask, below_then}
 use Rattle.math.specs.Vectors as Vectors
 use Rattle.mesh.specs.Mesh.{Mesh, triangle_count}

@@ -2,8 +2,7 @@
 use Rattle.std.specs.Prelude.{ℕ, ◌≡◌, List, [], ◌∷◌, leb, Float, length}
 use Rattle.lent.specs.Over.{over}
 use Rattle.refusal.specs.declared.Refusal.TheVariants.{Room}
-use Rattle.refusal.specs.declared.Verdict.{Verdict}
-use Rattle.refusal.specs.Verdicts.{ask, then, returned, written}
+use Rattle.refusal.specs.Verdicts.{Verdict, ask, then, returned, written}
 use Rattle.weld.specs.Questions as Questions
 use Rattle.weld.specs.Welding as Welding
 

@@ -4,12 +4,11 @@ use Rattle.std.proofs.Common.{zero-add, arith, sym, ◌∙◌, take_all, length-
 use Rattle.std.proofs.Math.Path.{refl}
 use Rattle.std.proofs.Math.ListN.{length, take, length-drop}
 use borrow.Author.Tests.{le-leb, lt-leb, eq-eqb}
+use Rattle.std.specs.Prelude.{Ok, Err}
 use Rattle.lent.specs.Over.{over, over_nothing, take_over, length_over}
 use Rattle.refusal.specs.declared.Refusal.{Refusal}
 use Rattle.refusal.specs.declared.Refusal.TheVariants as Refusals
-use Rattle.refusal.specs.declared.Verdict.{Verdict}
-use Rattle.refusal.specs.declared.Verdict.TheVariants.{Passed, Refused}
-use Rattle.refusal.specs.Verdicts.{written}
+use Rattle.refusal.specs.Verdicts.{Passed, Verdict, written}
 use Rattle.math.specs.Vectors.{points}
 use Rattle.mesh.specs.Mesh.{Mesh}
 use Rattle.mesh_questions.specs.Questions.{ask_mesh, ask_finite}
@@ -37,7 +36,7 @@ use Rattle.numbers.specs.NumberLaws.{length_numbers, length_ends, finite_section
 
 module _ (m : Mesh) (list : List Float) (places : ℕ) (listing₀ : List ℕ) where
   -- a refusal by 1 to 5
-  pub refused_mesh : (refusal : Refusal) → ask_mesh m.coords m.corners m.ends ≡ Refused refusal → ListsAnswers m list places listing₀ (Answers.Refused refusal) listing₀
+  pub refused_mesh : (refusal : Refusal) → ask_mesh m.coords m.corners m.ends ≡ Err refusal → ListsAnswers m list places listing₀ (Answers.Refused refusal) listing₀
   unfolding ask_column listed written
   refused_mesh refusal e = record { answer = rw e; listing = rw e (sym (over_nothing listing₀)) }
 
@@ -82,7 +81,7 @@ length_section text k n h = length-take-le n (drop k (lines text)) (omega (arith
 listed_length : (v : Verdict) (text : List ℕ) (bytes : ℕ) → length text ≡ bytes → listed v bytes ≡ listed v (length (written v text))
 unfolding listed written
 listed_length Passed text bytes e = rw e
-listed_length (Refused refusal) text bytes e = refl
+listed_length (Err refusal) text bytes e = refl
 
 -- what was written stands in front
 front_found : {A : Type 0} (front old new : List A) (n : ℕ) → length front ≡ n → n ≤ length old → new ≡ over front old → (n ≤ length new) × (take n new ≡ front)
@@ -209,12 +208,12 @@ refused_line text listing₀ line e = record { answer = rw e; listing = rw e (sy
 
 -- ---- what an answer says of the verdict
 
-pub listed_refused : (v : Verdict) (bytes : ℕ) (refusal : Refusal) → listed v bytes ≡ Answers.Refused refusal → v ≡ Refused refusal
+pub listed_refused : (v : Verdict) (bytes : ℕ) (refusal : Refusal) → listed v bytes ≡ Answers.Refused refusal → v ≡ Err refusal
 unfolding listed
 listed_refused Passed bytes refusal e = cc
-listed_refused (Refused other) bytes refusal e = cc
+listed_refused (Err other) bytes refusal e = cc
 
 pub listed_bytes : (v : Verdict) (bytes n : ℕ) → listed v bytes ≡ Answers.Bytes n → (v ≡ Passed) × (n ≡ bytes)
 unfolding listed
 listed_bytes Passed bytes n e = (refl, cc)
-listed_bytes (Refused other) bytes n e = (cc, cc)
+listed_bytes (Err other) bytes n e = (cc, cc)

@@ -1,10 +1,9 @@
 -- The column call (document 01, Column text): what the lines of a text become, its questions in their order, and its listing. Definitions only.
 use Rattle.std.specs.Prelude.{ℕ, ◌+◌, ◌≡◌, List, [], leb, Float, length, take, drop}
+use Rattle.std.specs.Prelude.{Ok, Err}
 use Rattle.lent.specs.Over.{over}
 use Rattle.refusal.specs.declared.Refusal.TheVariants as Refusals
-use Rattle.refusal.specs.declared.Verdict.{Verdict}
-use Rattle.refusal.specs.declared.Verdict.TheVariants.{Passed, Refused}
-use Rattle.refusal.specs.Verdicts.{ask, then, written}
+use Rattle.refusal.specs.Verdicts.{Passed, Verdict, ask, then, written}
 use Rattle.text.specs.declared.Counts.{Counts}
 use Rattle.text.specs.declared.Judged.{Judged}
 use Rattle.text.specs.declared.Judged.TheVariants.{BadLine, Good}
@@ -36,7 +35,7 @@ ask_column m points room = then (ask_mesh m.coords m.corners m.ends) (ask (leb (
 
 -- 12 first, then these
 unfoldable pub column_verdict : Judged → List (List ℕ) → ℕ → Verdict
-column_verdict (BadLine line) l room = Refused (Refusals.Line line)
+column_verdict (BadLine line) l room = Err (Refusals.Line line)
 column_verdict (Good counts) l room = ask_column (mesh_of counts l) counts.points room
 
 -- the listing of the plain scan's answers
@@ -59,7 +58,7 @@ column_answer text room = written (verdict text room) (column_listing (judged te
 -- what it answers: the refusal, or how many bytes it wrote
 unfoldable pub listed : Verdict → ℕ → Listed
 listed Passed bytes = Answers.Bytes bytes
-listed (Refused refusal) bytes = Answers.Refused refusal
+listed (Err refusal) bytes = Answers.Refused refusal
 
 -- what `point_list` promises: the number of bytes or the refusal, and of the buffer, lent as ₀ and left as ₁, the listing in front and the rest as it was
 pub record Lists (text listing₀ : List ℕ) (result : Listed) (listing₁ : List ℕ) : Type 0 where

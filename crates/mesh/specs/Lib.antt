@@ -1,4 +1,5 @@
 -- The definitions of crate `mesh`, and the laws that other crates cite.
+pub mod Axes
 pub mod Triangles
 pub mod Fans
 pub mod TriangleLaws

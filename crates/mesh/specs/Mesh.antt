@@ -1,18 +1,10 @@
--- A lent mesh as one value, and its triangles by number. Definitions only.
-use Rattle.std.specs.Prelude.{ℕ, zero, suc, ◌+◌, List, [], ◌∷◌, Float, length, get_or}
+-- The triangles of a mesh by number. Definitions only.
+use Rattle.std.specs.Prelude.{ℕ, zero, suc, ◌+◌, List, [], ◌∷◌, length, get_or}
+pub use Rattle.mesh_questions.specs.Mesh.{Mesh, mesh}
 use Rattle.math.specs.declared.BoundingBox.{BoundingBox}
 use Rattle.mesh.specs.declared.Triangle.{Triangle}
 use Rattle.mesh.specs.Triangles.{triangle, triangles}
 use Rattle.mesh.specs.Boxes.{triangle_box}
-
--- the lent lists of a mesh
-pub record Mesh : Type 0 where
-  pub coords : List Float
-  pub corners : List ℕ
-  pub ends : List ℕ
-
-abbrev pub mesh : List Float → List ℕ → List ℕ → Mesh
-mesh coords corners ends = record { coords = coords; corners = corners; ends = ends }
 
 -- how many triangles the mesh has
 unfoldable pub triangle_count : Mesh → ℕ

@@ -5,6 +5,7 @@ use native.Mathlib.Omega.{arith}
 use Rattle.std.proofs.Math.ListN.{length, get_or-append}
 use Rattle.refusal.specs.Verdicts.{both}
 use Rattle.mesh.specs.declared.Triangle.{Triangle}
+use Rattle.mesh.specs.declared.Sides.TheVariants.{Three, Four, Mixed}
 use Rattle.mesh_questions.specs.Faces.{faces, faces_from}
 use Rattle.mesh.specs.Triangles.{triangle, fan_from, fan, fans, triangles, start_from, equal_faces, sides, InFace, Placed}
 use Rattle.mesh_questions.specs.Questions.{ends_fit}
@@ -129,16 +130,16 @@ equal_faces_at n start (end ∷ rest) (suc f) e h =
     let more : n * suc f ≡ n * f + n = mul-suc n f in
     (omega (arith, next.0), omega (arith, next.1))
 
--- what the number of sides says
-equal_3 : (a b : Bool) → ◌≡◌ {A = ℕ} (cond a 3 (cond b 4 0)) 3 → a ≡ true
+-- what the sides say
+equal_3 : (a b : Bool) → cond a Three (cond b Four Mixed) ≡ Three → a ≡ true
 equal_3 true b e = refl
-equal_3 false true e = absurd (omega arith)
-equal_3 false false e = absurd (omega arith)
+equal_3 false true e = cc
+equal_3 false false e = cc
 
-equal_4 : (a b : Bool) → ◌≡◌ {A = ℕ} (cond a 3 (cond b 4 0)) 4 → b ≡ true
-equal_4 true b e = absurd (omega arith)
+equal_4 : (a b : Bool) → cond a Three (cond b Four Mixed) ≡ Four → b ≡ true
+equal_4 true b e = cc
 equal_4 false true e = refl
-equal_4 false false e = absurd (omega arith)
+equal_4 false false e = cc
 
 -- where the last face ends if all have the same number of corners
 equal_faces_last : (n start : ℕ) (ends : List ℕ) → equal_faces n start ends ≡ true → start_from start ends (length ends) ≡ start + n * length ends
@@ -164,7 +165,7 @@ in_corners corners ends t f m place =
 
 module _ (corners ends : List ℕ) (m : Fanned corners ends) (t : ℕ) (h : t < length corners - 2 * length ends) where
   -- the face of triangle t if all faces are triangles
-  pub in_triangle : sides ends ≡ 3 → InFace ends t t × (start_from 0 ends t ≡ 3 * t)
+  pub in_triangle : sides ends ≡ Three → InFace ends t t × (start_from 0 ends t ≡ 3 * t)
   unfolding sides
   in_triangle e =
       let equal = equal_3 _ (equal_faces 4 0 ends) e in
@@ -175,7 +176,7 @@ module _ (corners ends : List ℕ) (m : Fanned corners ends) (t : ℕ) (h : t < 
       (record { face = few; from = omega (arith, at.0); to = omega (arith, at.1) }, omega (arith, at.0))
 
   -- the face of triangle t if all faces have four corners
-  pub in_quad : sides ends ≡ 4 → InFace ends t (t / 2) × (start_from 0 ends (t / 2) ≡ 4 * (t / 2))
+  pub in_quad : sides ends ≡ Four → InFace ends t (t / 2) × (start_from 0 ends (t / 2) ≡ 4 * (t / 2))
   unfolding sides
   in_quad e =
       let equal = equal_4 (equal_faces 3 0 ends) _ e in

@@ -1,6 +1,8 @@
 -- The triangles of a mesh (document 01, Mesh rule): the fan of each face from its first corner. Definitions only.
 use Rattle.std.specs.Prelude.{ℕ, zero, suc, ◌+◌, ◌*◌, ◌≤◌, ◌<◌, Bool, true, cond, ◌&&◌, ◌≡◌, List, [], ◌∷◌, ◌++◌, eqb, length, get_or}
 use Rattle.mesh.specs.declared.Triangle.{Triangle}
+use Rattle.mesh.specs.declared.Sides.{Sides}
+use Rattle.mesh.specs.declared.Sides.TheVariants.{Three, Four, Mixed}
 use Rattle.mesh_questions.specs.Faces.{faces}
 
 -- the triangle of three vertex numbers
@@ -38,9 +40,9 @@ unfoldable pub equal_faces : ℕ → ℕ → List ℕ → Bool
 equal_faces sides start [] = true
 equal_faces sides start (end ∷ rest) = eqb end (start + sides) && equal_faces sides end rest
 
--- 3 or 4 if every face has so many corners, else 0
-unfoldable pub sides : List ℕ → ℕ
-sides ends = cond (equal_faces 3 0 ends) 3 (cond (equal_faces 4 0 ends) 4 0)
+-- whether every face has three corners, or four
+unfoldable pub sides : List ℕ → Sides
+sides ends = cond (equal_faces 3 0 ends) Three (cond (equal_faces 4 0 ends) Four Mixed)
 
 -- that triangle t is one of face f: it does not come before the face's first triangle, nor after its last
 pub record InFace (ends : List ℕ) (t f : ℕ) : Type 0 where

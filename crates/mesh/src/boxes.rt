@@ -3,13 +3,12 @@
 ghost use Rattle.std.specs.Prelude.{◌≡◌, ◌+◌, ◌-◌, ◌*◌, ◌<◌, length};
 ghost use Rattle.float.specs.Order.{Number};
 ghost use Rattle.math.specs.Vectors.{component};
-ghost use Rattle.mesh_questions.specs.Accepted.{Accepted};
+ghost use Rattle.mesh.specs.Axes as Axes;
 ghost use Rattle.mesh.specs.Boxes as Boxes;
 ghost use Rattle.mesh.specs.Centers as Centers;
 ghost use Rattle.mesh.specs.Mesh as Mesh;
-ghost use Rattle.mesh.specs.Triangles as Triangles;
 
-use crate::Triangle;
+use crate::{AcceptedMesh, Axis, Triangle};
 use math::{BoundingBox, Vec3};
 
 // What is computed of a mesh once for a list of points.
@@ -22,6 +21,7 @@ pub struct Bounds {
 }
 
 // Vertex `v`.
+#[tactic(auto, unfolding(crate::specs::Boxes::vertex))]
 pub fn vertex(coords: &[f64], v: u32) -> Vec3
     requires { 3 * v + 2 < length coords.now }
     ensures { result ≡ Boxes.vertex coords.now v }
@@ -30,6 +30,7 @@ pub fn vertex(coords: &[f64], v: u32) -> Vec3
 }
 
 // A triangle's own box.
+#[tactic(auto, unfolding(crate::specs::Boxes::triangle_box))]
 pub fn triangle_box(coords: &[f64], t: Triangle) -> BoundingBox
     requires { Boxes.Corners coords.now t }
     ensures { result ≡ Boxes.triangle_box coords.now t }
@@ -41,6 +42,7 @@ pub fn triangle_box(coords: &[f64], t: Triangle) -> BoundingBox
 }
 
 // The centre of a triangle's own box.
+#[tactic(auto, unfolding(crate::specs::Boxes::triangle_center))]
 pub fn triangle_center(coords: &[f64], t: Triangle) -> Vec3
     requires { Boxes.Corners coords.now t }
     ensures { result ≡ Boxes.triangle_center coords.now t }
@@ -86,24 +88,40 @@ pub fn finite_box(coords: &[f64], t: Triangle) -> BoundingBox
     }
 }
 
-// The own box of triangle `t` of an accepted mesh, whose `sides` are as `triangles::sides` says.
-pub fn own_box(coords: &[f64], corners: &[u32], ends: &[u32], sides: usize, t: u32) -> BoundingBox
-    requires { Accepted coords.now corners.now ends.now × (sides ≡ Triangles.sides ends.now) × (t < length corners.now - 2 * length ends.now) }
-    ensures { result ≡ Mesh.own_box (Mesh.mesh coords.now corners.now ends.now) t }
-{
-    let triangle = crate::triangles::triangle(corners, ends, sides, t as usize);
-    finite_box(coords, triangle)
+impl Axis {
+    // Its place among the three numbers of a point.
+    pub fn place(self) -> usize
+        ensures { result ≡ Axes.place self }
+    {
+        match self {
+            Axis::X => 0,
+            Axis::Y => 1,
+            Axis::Z => 2,
+        }
+    }
 }
 
-// The centre of a triangle's own box on axis 0, 1 or 2, where its corners are finite: that axis alone is
-// worked out.
-pub fn center_on(coords: &[f64], t: Triangle, axis: usize) -> f64
-    requires { Boxes.Corners coords.now t × Boxes.Finite coords.now t × (axis < 3) }
-    ensures { result ≡ component (Boxes.triangle_center coords.now t) axis }
+impl<'a> AcceptedMesh<'a> {
+    // The own box of triangle `t`.
+    #[tactic(auto, unfolding(crate::specs::Mesh::own_box))]
+    pub fn own_box(&self, t: u32) -> BoundingBox
+        requires { t < length self.now.corners - 2 * length self.now.ends }
+        ensures { result ≡ Mesh.own_box self.now t }
+    {
+        let triangle = self.triangle(t as usize);
+        finite_box(self.coords, triangle)
+    }
+}
+
+// The centre of a triangle's own box on an axis, where its corners are finite: that axis alone is worked out.
+pub fn center_on(coords: &[f64], t: Triangle, axis: Axis) -> f64
+    requires { Boxes.Corners coords.now t × Boxes.Finite coords.now t }
+    ensures { result ≡ component (Boxes.triangle_center coords.now t) (Axes.place axis) }
 {
-    let a = coords[3 * (t.a as usize) + axis];
-    let b = coords[3 * (t.b as usize) + axis];
-    let c = coords[3 * (t.c as usize) + axis];
+    let k = axis.place();
+    let a = coords[3 * (t.a as usize) + k];
+    let b = coords[3 * (t.b as usize) + k];
+    let c = coords[3 * (t.c as usize) + k];
     (lowest(a, b, c) + highest(a, b, c)) * 0.5
 }
 
@@ -111,17 +129,15 @@ pub fn center_on(coords: &[f64], t: Triangle, axis: usize) -> f64
 pub fn mesh_box(coords: &[f64]) -> BoundingBox
     ensures { result ≡ Boxes.mesh_box coords.now }
 {
-    let n = coords.len() / 3;
     let mut b = BoundingBox::empty();
-    let mut v = 0;
-    while v < n {
+    for v in 0..coords.len() / 3 {
         b = b.include(Vec3::at(coords, 3 * v));
-        v += 1;
     }
     b
 }
 
 // The tolerance of the surface test of a mesh with this box.
+#[tactic(auto, unfolding(crate::specs::Boxes::surface_eps))]
 fn surface_eps(b: BoundingBox) -> f64
     ensures { result ≡ Boxes.surface_eps b }
 {
@@ -130,6 +146,7 @@ fn surface_eps(b: BoundingBox) -> f64
 }
 
 // The box larger on every side by the relative tolerance times the norm of its size.
+#[tactic(auto, unfolding(crate::specs::Boxes::grown))]
 fn grown(b: BoundingBox) -> BoundingBox
     ensures { result ≡ Boxes.grown b }
 {
@@ -137,6 +154,7 @@ fn grown(b: BoundingBox) -> BoundingBox
 }
 
 // The same from the mesh's coordinates.
+#[tactic(auto, unfolding(crate::specs::Boxes::prepare))]
 pub fn prepare(coords: &[f64]) -> Bounds
     ensures { result ≡ Boxes.prepare coords.now }
 {

@@ -1,10 +1,20 @@
-// A lent mesh, from the upper half of csx's polyhedron.rs: its triangles and its boxes.
-// `coords` has x, y, z of each vertex, `corners` the vertex numbers face after face, `ends` where the
-// corners of each face end. The definitions are in specs/.
+// A mesh that questions 1 to 5 let pass, from the upper half of csx's polyhedron.rs: its triangles and its boxes. The
+// definitions are in specs/.
 #![tactic(auto)]
 
 pub mod boxes;
 pub mod triangles;
+
+ghost use Rattle.std.specs.Prelude.{◌≡◌, ◌-◌, ◌*◌, length};
+ghost use Rattle.refusal.specs.Verdicts.{answered};
+ghost use Rattle.mesh_questions.specs.Accepted.{Accepted};
+ghost use Rattle.mesh_questions.specs.Questions.{ask_mesh};
+ghost use Rattle.mesh.specs.Mesh as Meshes;
+
+use crate::triangles::sides;
+use mesh_questions::Mesh;
+use refusal::Refusal;
+use std::marker::Model;
 
 // The vertex numbers of a triangle.
 #[derive(Clone, Copy)]
@@ -12,4 +22,66 @@ pub struct Triangle {
     pub a: u32,
     pub b: u32,
     pub c: u32,
+}
+
+// How many corners each face of a mesh has.
+#[derive(Clone, Copy)]
+pub enum Sides {
+    Three,
+    Four,
+    // Some have another number, or not all have the same.
+    Mixed,
+}
+
+// An axis.
+#[derive(Clone, Copy)]
+pub enum Axis {
+    X,
+    Y,
+    Z,
+}
+
+// A mesh that questions 1 to 5 let pass, and how its triangles are found quickly.
+#[derive(Drop)]
+pub struct AcceptedMesh<'a> {
+    pub coords: &'a [f64],
+    pub corners: &'a [u32],
+    pub ends: &'a [u32],
+    pub sides: Sides,
+}
+
+impl<'a> Model for AcceptedMesh<'a> {
+    ghost use Rattle.std.specs.Prelude.{◌≡◌};
+    ghost use Rattle.mesh_questions.specs.Accepted.{Accepted};
+    ghost use Rattle.mesh_questions.specs.Mesh.{Mesh, mesh};
+    ghost use Rattle.mesh.specs.Triangles as Triangles;
+
+    ghost Value = { Mesh };
+
+    ghost view = { λ m. mesh m.coords.now m.corners.now m.ends.now };
+
+    ghost invariant = { λ m. Accepted m.coords.now m.corners.now m.ends.now × (m.sides ≡ Triangles.sides m.ends.now) };
+}
+
+impl<'a> AcceptedMesh<'a> {
+    // Questions 1 to 5.
+    pub fn accept(mesh: &Mesh<'a>) -> Result<AcceptedMesh<'a>, Refusal>
+        ensures { result ≡ answered (ask_mesh mesh.now.coords mesh.now.corners mesh.now.ends) mesh.now }
+    {
+        mesh.ask()?;
+        Ok(AcceptedMesh {
+            coords: mesh.coords,
+            corners: mesh.corners,
+            ends: mesh.ends,
+            sides: sides(mesh.ends),
+        })
+    }
+
+    // How many triangles there are.
+    pub fn triangle_count(&self) -> usize
+        ensures count { result ≡ length self.now.corners - 2 * length self.now.ends }
+        ensures accepted { Accepted self.now.coords self.now.corners self.now.ends }
+    {
+        self.corners.len() - 2 * self.ends.len()
+    }
 }

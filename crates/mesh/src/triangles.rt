@@ -1,9 +1,9 @@
 // Triangle t of a mesh: the t-th of the fans of its faces. The definitions are in specs/Triangles.antt.
 ghost use Rattle.std.specs.Prelude.{◌≡◌, ◌+◌, ◌-◌, ◌*◌, ◌≤◌, ◌<◌, length, get_or};
+ghost use Rattle.mesh.specs.Mesh as Mesh;
 ghost use Rattle.mesh.specs.Triangles as Triangles;
-ghost use Rattle.mesh_questions.specs.Accepted.{Fanned};
 
-use crate::Triangle;
+use crate::{AcceptedMesh, Sides, Triangle};
 
 // Whether every face has this many corners.
 fn equal_faces(sides: usize, ends: &[u32]) -> bool
@@ -11,26 +11,29 @@ fn equal_faces(sides: usize, ends: &[u32]) -> bool
     ensures { result ≡ Triangles.equal_faces sides 0 ends.now }
 {
     let mut start = 0;
-    let mut i = 0;
-    while i < ends.len() {
-        let end = ends[i] as usize;
+    for end in ends {
+        let end = *end as usize;
         if end != start + sides {
             return false;
         }
         start = end;
-        i += 1;
     }
     true
 }
 
-// 3 or 4 if every face has so many corners, else 0: with it `triangle` is quick.
-pub fn sides(ends: &[u32]) -> usize
+// Whether all faces have three corners, or four: with it `triangle` is quick.
+#[tactic(auto, unfolding(crate::specs::Triangles::sides))]
+pub fn sides(ends: &[u32]) -> Sides
     ensures { result ≡ Triangles.sides ends.now }
 {
     if equal_faces(3, ends) {
-        return 3;
+        return Sides::Three;
     }
-    if equal_faces(4, ends) { 4 } else { 0 }
+    if equal_faces(4, ends) {
+        Sides::Four
+    } else {
+        Sides::Mixed
+    }
 }
 
 // Where the corners of face `f` begin.
@@ -96,19 +99,24 @@ fn fan_triangle(corners: &[u32], first: usize, at: usize) -> Triangle
     }
 }
 
-// Triangle `t` of a mesh, whose `sides` are as `sides` says: at once if all faces have three or four
-// corners, at the first guess if all have the same number, and else by a binary search.
-pub fn triangle(corners: &[u32], ends: &[u32], sides: usize, t: usize) -> Triangle
-    requires { Fanned corners.now ends.now × (sides ≡ Triangles.sides ends.now) × (t < length corners.now - 2 * length ends.now) }
-    ensures { result ≡ get_or (Triangles.triangles corners.now ends.now) t (Triangles.triangle 0 0 0) }
-{
-    if sides == 3 {
-        return fan_triangle(corners, 3 * t, 3 * t);
+impl<'a> AcceptedMesh<'a> {
+    // Triangle `t`: at once if all faces have three or four corners, at the first guess if all have the same number, and
+    // else by a binary search.
+    pub fn triangle(&self, t: usize) -> Triangle
+        requires { t < length self.now.corners - 2 * length self.now.ends }
+        ensures { result ≡ Mesh.triangle_at self.now t }
+    {
+        let corners = self.corners;
+        match self.sides {
+            Sides::Three => fan_triangle(corners, 3 * t, 3 * t),
+            Sides::Four => {
+                let f = t / 2;
+                fan_triangle(corners, 4 * f, t + 2 * f)
+            }
+            Sides::Mixed => {
+                let f = face_of(self.ends, corners.len() - 2 * self.ends.len(), t);
+                fan_triangle(corners, start_of(self.ends, f), t + 2 * f)
+            }
+        }
     }
-    if sides == 4 {
-        let f = t / 2;
-        return fan_triangle(corners, 4 * f, t + 2 * f);
-    }
-    let f = face_of(ends, corners.len() - 2 * ends.len(), t);
-    fan_triangle(corners, start_of(ends, f), t + 2 * f)
 }

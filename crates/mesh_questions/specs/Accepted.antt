@@ -1,18 +1,15 @@
 -- What holds of a mesh that questions 1 to 5 let pass.
-use Rattle.std.specs.Prelude.{ℕ, zero, suc, ◌+◌, ◌-◌, ◌*◌, ◌/◌, ◌≤◌, ◌<◌, ◌≡◌, refl, Bool, true, false, List, [], ◌∷◌, leb, ltb, Float, length, get_or, take, drop}
+use Rattle.std.specs.Prelude.{ℕ, zero, suc, ◌+◌, ◌-◌, ◌*◌, ◌/◌, ◌≤◌, ◌<◌, ◌≡◌, refl, Bool, true, false, List, [], ◌∷◌, leb, ltb, Float, length, get_or, take, drop, Ok, Err}
 use Rattle.std.proofs.Common.{arith, length-take, length-drop, get_or-take, get_or-drop, leb-true, eqb-true, ltb-true, ltb-false}
 use Rattle.std.specs.Float.{nan}
 use Rattle.math.specs.declared.Vec3.{Vec3}
 use Rattle.math.specs.Vectors as Vectors
 use Rattle.refusal.specs.declared.Refusal.{Refusal}
-use Rattle.refusal.specs.declared.Verdict.{Verdict}
-use Rattle.refusal.specs.declared.Verdict.TheVariants.{Passed, Refused}
 use Rattle.refusal.specs.declared.Refusal.TheVariants.{ShortFace, CornerOut, NotFinite}
-use Rattle.refusal.specs.Verdicts.{ask, ask_passed, then_passed, both}
+use Rattle.refusal.specs.Verdicts.{Passed, ask, ask_passed, then_passed, answered_ok, answered_err, both}
 use Rattle.mesh_questions.specs.Faces.{faces, faces_from}
 use Rattle.mesh_questions.specs.declared.Counts.{Counts}
-use Rattle.mesh_questions.specs.declared.Asked.TheVariants as Answers
-use Rattle.mesh_questions.specs.Questions.{whole_vertices, ends_fit, faces_fit, ask_lengths, all_below, ask_face, ask_faces, ask_finite, ask_parts, ask_mesh, Lengths, counts, answered, mesh_asked}
+use Rattle.mesh_questions.specs.Questions.{whole_vertices, ends_fit, faces_fit, ask_lengths, all_below, ask_face, ask_faces, ask_finite, ask_parts, ask_mesh, Lengths, counts, mesh_asked}
 use Rattle.mesh_questions.specs.QuestionLaws.{ends_fit_le}
 
 -- each face has three corners or more, the first beginning at place `start`
@@ -119,29 +116,20 @@ accepted coords corners ends e =
       finite = λ v h. rw (Vectors.get_d_points coords v origin h) at (finite_of NotFinite 0 (Vectors.points coords) v origin rest.1 (rw (Vectors.length_points coords) h));
     }
 
--- an answer with counts: the questions passed, and these are the counts
-answered_accepted : (v : Verdict) (a found : Counts) → answered v a ≡ Answers.Accepted found → (v ≡ Passed) × (found ≡ a)
-answered_accepted Passed a found e = (refl, cc)
-answered_accepted (Refused refusal) a found e = (cc, cc)
-
-answered_refused : (v : Verdict) (a : Counts) (refusal : Refusal) → answered v a ≡ Answers.Refused refusal → v ≡ Refused refusal
-answered_refused Passed a refusal e = cc
-answered_refused (Refused other) a refusal e = cc
-
 -- the verdict behind an answer of questions 1 to 5
-pub asked_passed : (coords : List Float) (corners ends : List ℕ) (found : Counts) → mesh_asked coords corners ends ≡ Answers.Accepted found → ask_mesh coords corners ends ≡ Passed
+pub asked_passed : (coords : List Float) (corners ends : List ℕ) (found : Counts) → mesh_asked coords corners ends ≡ Ok found → ask_mesh coords corners ends ≡ Passed
 unfolding mesh_asked
-asked_passed coords corners ends found e = (answered_accepted _ (counts coords corners ends) found e).0
+asked_passed coords corners ends found e = (answered_ok _ (counts coords corners ends) found e).0
 
-pub asked_refused : (coords : List Float) (corners ends : List ℕ) (refusal : Refusal) → mesh_asked coords corners ends ≡ Answers.Refused refusal → ask_mesh coords corners ends ≡ Refused refusal
+pub asked_refused : (coords : List Float) (corners ends : List ℕ) (refusal : Refusal) → mesh_asked coords corners ends ≡ Err refusal → ask_mesh coords corners ends ≡ Err refusal
 unfolding mesh_asked
-asked_refused coords corners ends refusal e = answered_refused _ (counts coords corners ends) refusal e
+asked_refused coords corners ends refusal e = answered_err _ (counts coords corners ends) refusal e
 
 -- what is known of a mesh once questions 1 to 5 are answered with counts
-pub asked : (coords : List Float) (corners ends : List ℕ) (found : Counts) → mesh_asked coords corners ends ≡ Answers.Accepted found → Accepted coords corners ends × (found ≡ counts coords corners ends)
+pub asked : (coords : List Float) (corners ends : List ℕ) (found : Counts) → mesh_asked coords corners ends ≡ Ok found → Accepted coords corners ends × (found ≡ counts coords corners ends)
 unfolding mesh_asked
 asked coords corners ends found e =
-    let parts = answered_accepted (ask_mesh coords corners ends) (counts coords corners ends) found e in
+    let parts = answered_ok (ask_mesh coords corners ends) (counts coords corners ends) found e in
     (accepted coords corners ends parts.0, parts.1)
 
 -- an accepted mesh has these facts

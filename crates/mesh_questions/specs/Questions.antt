@@ -1,15 +1,11 @@
 -- Document 01's questions 1 to 5 of a mesh, in their order. Definitions only.
-use Rattle.std.specs.Prelude.{ℕ, ◌+◌, ◌-◌, ◌*◌, ◌/◌, ◌%◌, ◌≤◌, ◌≡◌, Bool, true, ◌&&◌, List, [], ◌∷◌, eqb, leb, ltb, Float, length}
+use Rattle.std.specs.Prelude.{ℕ, ◌+◌, ◌-◌, ◌*◌, ◌/◌, ◌%◌, ◌≤◌, ◌≡◌, Bool, true, ◌&&◌, List, [], ◌∷◌, eqb, leb, ltb, Float, length, Result, Ok, Err}
 use Rattle.math.specs.declared.Vec3.{Vec3}
 use Rattle.math.specs.Vectors as Vectors
 use Rattle.refusal.specs.declared.Refusal.{Refusal}
-use Rattle.refusal.specs.declared.Verdict.{Verdict}
-use Rattle.refusal.specs.declared.Verdict.TheVariants.{Passed, Refused}
 use Rattle.refusal.specs.declared.Refusal.TheVariants.{Coordinates, Faces, ShortFace, CornerOut, NotFinite}
-use Rattle.refusal.specs.Verdicts.{ask, then}
+use Rattle.refusal.specs.Verdicts.{Passed, Verdict, ask, then, answered}
 use Rattle.mesh_questions.specs.declared.Counts.{Counts}
-use Rattle.mesh_questions.specs.declared.Asked.{Asked}
-use Rattle.mesh_questions.specs.declared.Asked.TheVariants as Answers
 use Rattle.mesh_questions.specs.Faces.{faces}
 
 -- question 1: is the coordinate list a multiple of 3 long, with at most 65,536 vertices?
@@ -74,9 +70,5 @@ counts coords corners ends =
     record { vertices = length coords / 3; faces = length ends; triangles = length corners - 2 * length ends }
 
 -- what questions 1 to 5 answer: the refusal, or the counts
-abbrev pub answered : Verdict → Counts → Asked
-answered Passed found = Answers.Accepted found
-answered (Refused refusal) found = Answers.Refused refusal
-
-unfoldable pub mesh_asked : List Float → List ℕ → List ℕ → Asked
+unfoldable pub mesh_asked : List Float → List ℕ → List ℕ → Result Counts Refusal
 mesh_asked coords corners ends = answered (ask_mesh coords corners ends) (counts coords corners ends)

@@ -7,11 +7,11 @@ use Rattle.std.specs.Float.{nan, inf, fin, binary64}
 use Rattle.std.specs.Float.Ieee.{neg, of_int}
 use Rattle.std.specs.Float.Ieee.Exact.{HasValue}
 use Rattle.std.specs.Float.Ieee.Back.{round_whole}
+use Rattle.refusal.specs.Verdicts.{Passed}
 use Rattle.float.specs.Rules.{is_finite}
 use Rattle.math.specs.Vectors as Vectors
 use Rattle.math.specs.Vectors.{points}
 use Rattle.refusal.specs.declared.Refusal.{Refusal}
-use Rattle.refusal.specs.declared.Verdict.TheVariants.{Passed}
 use Rattle.mesh_questions.specs.Questions.{ask_finite}
 use Rattle.lent.specs.ReorderedLaws.{Every, every_at}
 use Rattle.lent.specs.Over.{over, over_behind, over_three, over_next, length_over}

@@ -1,8 +1,8 @@
 -- What the program prints (document 01, Column text): the listing, or a header with the refusal's number and place. Definitions only.
 use Rattle.std.specs.Prelude.{ℕ, ◌≡◌, cond, List, [], leb, length}
+use Rattle.refusal.specs.Verdicts.{Passed, Verdict}
+use Rattle.std.specs.Prelude.{Ok, Err}
 use Rattle.lent.specs.Over.{over}
-use Rattle.refusal.specs.declared.Verdict.{Verdict}
-use Rattle.refusal.specs.declared.Verdict.TheVariants.{Passed, Refused}
 use Rattle.refusal.specs.Numbers.{number, place}
 use Rattle.listing.specs.Listing.{header}
 use Rattle.column.specs.Column.{verdict, column_answer}
@@ -10,7 +10,7 @@ use Rattle.column.specs.Column.{verdict, column_answer}
 -- the listing unless a question refuses, else the refusal's header
 unfoldable pub answer_or : Verdict → List ℕ → List ℕ
 answer_or Passed listing = listing
-answer_or (Refused refusal) listing = header (number refusal) (place refusal)
+answer_or (Err refusal) listing = header (number refusal) (place refusal)
 
 -- what is printed for a text with room for the longest listing, 5,130 bytes; nothing with less
 unfoldable pub printed : List ℕ → ℕ → List ℕ

@@ -3,8 +3,8 @@
 use Rattle.std.specs.Prelude.{ℕ, ◌<◌, ◌≡◌, List, T, Float, length, get_or}
 use Rattle.std.specs.Float.{nan, binary64}
 use Rattle.std.specs.Float.Ieee.{fits}
+use Rattle.refusal.specs.Verdicts.{Passed}
 use Rattle.lent.specs.Over.{over}
-use Rattle.refusal.specs.declared.Verdict.TheVariants.{Passed}
 use Rattle.mesh_questions.specs.Questions.{ask_mesh}
 use Rattle.mesh.specs.Mesh.{Mesh}
 use Rattle.tree.specs.Tree.{Tree, node_count}

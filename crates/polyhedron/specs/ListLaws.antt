@@ -5,13 +5,12 @@ use Rattle.std.proofs.Math.Path.{sym}
 use Rattle.std.specs.Float.{nan}
 use Rattle.std.proofs.Math.ListN.{length-replicate, get_or-map}
 use Rattle.std.proofs.lemmas.List.{length-map}
+use Rattle.std.specs.Prelude.{Ok, Err}
 use Rattle.keys.specs.Sorting.{sorted}
 use Rattle.lent.specs.Over.{over, over_nothing, over_take, over_over, over_whole, length_over}
 use Rattle.refusal.specs.declared.Refusal.{Refusal}
 use Rattle.refusal.specs.declared.Refusal.TheVariants as Refusals
-use Rattle.refusal.specs.declared.Verdict.{Verdict}
-use Rattle.refusal.specs.declared.Verdict.TheVariants.{Passed, Refused}
-use Rattle.refusal.specs.Verdicts.{written, ask_passed, then_passed, both}
+use Rattle.refusal.specs.Verdicts.{Passed, Verdict, written, ask_passed, then_passed, both}
 use Rattle.math.specs.declared.Vec3.{Vec3}
 use Rattle.math.specs.Vectors.{vec, at, points, is_finite, length_points, get_d_points}
 use Rattle.mesh_questions.specs.Faces.{faces}
@@ -75,7 +74,7 @@ list_short list places e =
 
 module _ {m : Mesh} {t : Tree} {work₀ work₁ : List ℕ} {checked : Verdict} (check : Check.Checks m t work₀ checked work₁) where
   -- a refusal by 1 to 7
-  pub refused_tree : (list : List Float) (answers₀ : List ℕ) {refusal : Refusal} → checked ≡ Refused refusal → Contains m t list work₀ answers₀ (Refused refusal) work₁ answers₀
+  pub refused_tree : (list : List Float) (answers₀ : List ℕ) {refusal : Refusal} → checked ≡ Err refusal → Contains m t list work₀ answers₀ (Err refusal) work₁ answers₀
   unfolding list_verdict list_answer list_work keys_left
   refused_tree list answers₀ e =
       let verdict = sym check.answer ∙ e in
@@ -105,7 +104,7 @@ module _ {m : Mesh} {t : Tree} {work₀ work₁ : List ℕ} {checked : Verdict} 
         rw (zeros, length_over (replicate (length m.corners) 0) work₀ (omega arith)) enough
 
     -- a refusal by 8 or 9
-    pub refused_list : (list : List Float) (answers₀ : List ℕ) {refusal : Refusal} → ask_list list (length answers₀) ≡ Refused refusal → Contains m t list work₀ answers₀ (Refused refusal) work₁ answers₀
+    pub refused_list : (list : List Float) (answers₀ : List ℕ) {refusal : Refusal} → ask_list list (length answers₀) ≡ Err refusal → Contains m t list work₀ answers₀ (Err refusal) work₁ answers₀
     unfolding list_verdict list_answer list_work keys_left
     refused_list list answers₀ e =
         record { verdict = rw (all, e); answers = rw (all, e) (unfold written in sym (over_nothing answers₀)); work = rw (all, e) check.work }

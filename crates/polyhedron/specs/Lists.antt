@@ -1,12 +1,11 @@
 -- Answering a list of points (document 01, 'Answers, and the questions asked first'): questions 1 to 9, the answers, and what is left in the work places.
 -- Definitions only.
 use Rattle.std.specs.Prelude.{ℕ, ◌*◌, ◌/◌, ◌%◌, ◌<◌, ◌≡◌, Bool, ◌&&◌, List, map, eqb, leb, Float, length, replicate}
+use Rattle.std.specs.Prelude.{Ok, Err}
 use Rattle.keys.specs.Sorting.{sorted}
 use Rattle.lent.specs.Over.{over}
 use Rattle.refusal.specs.declared.Refusal.TheVariants as Refusals
-use Rattle.refusal.specs.declared.Verdict.{Verdict}
-use Rattle.refusal.specs.declared.Verdict.TheVariants.{Passed, Refused}
-use Rattle.refusal.specs.Verdicts.{ask, then, written}
+use Rattle.refusal.specs.Verdicts.{Passed, Verdict, ask, then, written}
 use Rattle.math.specs.Vectors.{at, points}
 use Rattle.mesh_questions.specs.Faces.{faces}
 use Rattle.mesh_questions.specs.Questions.{ask_finite}
@@ -45,7 +44,7 @@ list_answer m t work list places = written (list_verdict m t work list places) (
 -- what is left in the needed work places where 1 to 6 refuse nothing: the edge keys, ascending, or 0 for each corner if 7, 8 or 9 refuses
 unfoldable pub keys_left : Mesh → Verdict → List ℕ
 keys_left m Passed = sorted (edge_keys (faces m.corners m.ends))
-keys_left m (Refused refusal) = replicate (length m.corners) 0
+keys_left m (Err refusal) = replicate (length m.corners) 0
 
 -- what is written into the work places: nothing if 1 to 6 refuse
 unfoldable pub list_work : Mesh → Tree → ℕ → List Float → ℕ → List ℕ

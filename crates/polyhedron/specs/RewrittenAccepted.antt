@@ -8,8 +8,7 @@ use mathlib.Core.List.{List, [], ◌∷◌, map, map-append, flatten}
 use Rattle.std.proofs.lemmas.List.{length-map}
 use Rattle.lent.specs.Reordered.{Reordered}
 use Rattle.lent.specs.ReorderedLaws.{reordered_sum, length_reordered, Every, every_reordered, every_mapped}
-use Rattle.refusal.specs.declared.Verdict.TheVariants.{Passed}
-use Rattle.refusal.specs.Verdicts.{ask_passed, then_passed, both}
+use Rattle.refusal.specs.Verdicts.{Passed, ask_passed, then_passed, both}
 use Rattle.math.specs.declared.Vec3.{Vec3}
 use Rattle.math.specs.Vectors.{points, is_finite}
 use Rattle.mesh_questions.specs.Faces.{faces, length_faces}

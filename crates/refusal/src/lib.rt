@@ -81,10 +81,3 @@ impl Refusal {
         self.number() * 1_000_000 + self.place() as u64
     }
 }
-
-// What a block of questions says: that all of them pass, or the first refusal.
-#[derive(Clone, Copy)]
-pub enum Verdict {
-    Passed,
-    Refused(Refusal),
-}

@@ -4,9 +4,7 @@ use Rattle.std.specs.Prelude.{ℕ, ◌≤◌, ◌≡◌, Bool, List, leb, length
 use Rattle.std.proofs.Common.{leb-true}
 use Rattle.lent.specs.Over.{over}
 use Rattle.refusal.specs.declared.Refusal.TheVariants as Refusals
-use Rattle.refusal.specs.declared.Verdict.{Verdict}
-use Rattle.refusal.specs.declared.Verdict.TheVariants.{Passed}
-use Rattle.refusal.specs.Verdicts.{ask, then, written, ask_passed, then_passed}
+use Rattle.refusal.specs.Verdicts.{Passed, Verdict, ask, then, written, ask_passed, then_passed}
 use Rattle.mesh_questions.specs.Questions.{ask_mesh}
 use Rattle.mesh_questions.specs.Accepted.{Accepted, accepted}
 use Rattle.mesh.specs.Mesh.{Mesh}

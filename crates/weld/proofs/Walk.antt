@@ -7,10 +7,10 @@ use mathlib.Core.List.{List, [], ◌∷◌, ◌++◌, append-nil}
 use lib.Ieee.{Float}
 use lib.ListN.{length, take, drop, length-append, take-append-drop}
 use lib.Seq.{take-add, take_all, length-take-le}
+use Rattle.refusal.specs.Verdicts.{Passed}
 use Rattle.lent.specs.Over.{over, over_behind}
 use Rattle.math.specs.declared.Vec3.{Vec3}
 use Rattle.math.specs.Vectors.{at, points, points_next, length_points}
-use Rattle.refusal.specs.declared.Verdict.TheVariants.{Passed}
 use Rattle.mesh.specs.declared.Triangle.{Triangle}
 use Rattle.mesh.specs.Triangles.{triangle}
 use Rattle.weld.specs.declared.Numbered.{Numbered}

@@ -6,8 +6,7 @@ use Rattle.std.proofs.Math.Seq.{drop-append_seam}
 use Rattle.lent.specs.Over.{take_over}
 use Rattle.math.specs.declared.Vec3.{Vec3}
 use Rattle.math.specs.Vectors.{is_finite, points, length_points}
-use Rattle.refusal.specs.declared.Verdict.TheVariants.{Passed}
-use Rattle.refusal.specs.Verdicts.{written, both}
+use Rattle.refusal.specs.Verdicts.{Passed, written, both}
 use Rattle.mesh.specs.declared.Triangle.{Triangle}
 use Rattle.mesh.specs.Triangles.{triangle}
 use Rattle.mesh_questions.specs.Faces as Faces

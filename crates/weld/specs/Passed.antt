@@ -4,14 +4,13 @@ use Rattle.std.specs.Prelude.{ℕ, zero, suc, ◌+◌, ◌*◌, ◌/◌, ◌%◌
 use Rattle.std.proofs.Common.{arith, eqb-true, leb-true}
 use Rattle.std.specs.Float.Ieee.{eq}
 use Rattle.std.specs.Float.Ieee.Bits.{is_true}
+use Rattle.std.specs.Prelude.{Ok, Err}
 use Rattle.float.specs.Order.{finite_number, le_refl, le_antisym}
 use Rattle.float.specs.Rules as Rules
 use Rattle.math.specs.declared.Vec3.{Vec3}
 use Rattle.math.specs.Vectors.{is_finite}
 use Rattle.refusal.specs.declared.Refusal.{Refusal}
-use Rattle.refusal.specs.declared.Verdict.{Verdict}
-use Rattle.refusal.specs.declared.Verdict.TheVariants.{Passed, Refused}
-use Rattle.refusal.specs.Verdicts.{ask_passed, then_passed, both}
+use Rattle.refusal.specs.Verdicts.{Passed, Verdict, ask_passed, then_passed, both}
 use Rattle.mesh_questions.specs.Questions.{ask_finite, ask_vertices}
 use Rattle.weld.specs.declared.Welded.TheVariants as Answers
 use Rattle.weld.specs.Welding.{same, vertices, faces}
@@ -45,13 +44,13 @@ triangles_passed l coords corners ends h =
 pub answer_sizes : (v : Verdict) (triangles : List Float) (n k : ℕ) → weld_answer v triangles ≡ Answers.Sizes n k → (v ≡ Passed) × (n ≡ length (vertices triangles)) × (k ≡ length (faces triangles))
 unfolding weld_answer
 answer_sizes Passed triangles n k e = (refl, cc, cc)
-answer_sizes (Refused refusal) triangles n k e = (cc, cc, cc)
+answer_sizes (Err refusal) triangles n k e = (cc, cc, cc)
 
 -- an answer with a refusal is that of the questions
-pub answer_refused : (v : Verdict) (triangles : List Float) (refusal : Refusal) → weld_answer v triangles ≡ Answers.Refused refusal → v ≡ Refused refusal
+pub answer_refused : (v : Verdict) (triangles : List Float) (refusal : Refusal) → weld_answer v triangles ≡ Answers.Refused refusal → v ≡ Err refusal
 unfolding weld_answer
 answer_refused Passed triangles refusal e = cc
-answer_refused (Refused other) triangles refusal e = cc
+answer_refused (Err other) triangles refusal e = cc
 
 -- the first of vertices that are all finite is, and so are the others
 pub finite_head : (m : ℕ) (p : Vec3) (rest : List Vec3) → ask_vertices m (p ∷ rest) ≡ Passed → (is_finite p ≡ true) × (ask_vertices (m + 1) rest ≡ Passed)

@@ -1,11 +1,10 @@
 -- Document 01's questions 1, 5 and 6 of triangles to weld, and what `from_triangles` promises. Definitions only.
 use Rattle.std.specs.Prelude.{ℕ, ◌*◌, ◌/◌, ◌%◌, Bool, ◌&&◌, ◌≡◌, List, eqb, leb, Float, length}
+use Rattle.std.specs.Prelude.{Ok, Err}
 use Rattle.lent.specs.Over.{over}
 use Rattle.math.specs.Vectors.{points}
 use Rattle.refusal.specs.declared.Refusal.TheVariants.{Coordinates, Room}
-use Rattle.refusal.specs.declared.Verdict.{Verdict}
-use Rattle.refusal.specs.declared.Verdict.TheVariants as Verdicts
-use Rattle.refusal.specs.Verdicts.{ask, then, written}
+use Rattle.refusal.specs.Verdicts.{Passed, Verdict, ask, then, written}
 use Rattle.mesh_questions.specs.Questions.{ask_vertices}
 use Rattle.weld.specs.declared.Welded.{Welded}
 use Rattle.weld.specs.declared.Welded.TheVariants.{Refused, Sizes}
@@ -36,8 +35,8 @@ verdict triangles coords corners ends = ask_triangles triangles (length coords) 
 
 -- the answer: the number of vertices and of faces unless a question refuses
 unfoldable pub weld_answer : Verdict → List Float → Welded
-weld_answer Verdicts.Passed triangles = Sizes (length (Welding.vertices triangles)) (length (Welding.faces triangles))
-weld_answer (Verdicts.Refused refusal) triangles = Refused refusal
+weld_answer Passed triangles = Sizes (length (Welding.vertices triangles)) (length (Welding.faces triangles))
+weld_answer (Err refusal) triangles = Err refusal
 
 -- what `from_triangles` promises: its answer, and of each buffer, lent as ₀ and left as ₁, the written front and the rest as it was
 pub record Welds (triangles coords₀ : List Float) (corners₀ ends₀ : List ℕ) (result : Welded) (coords₁ : List Float) (corners₁ ends₁ : List ℕ) : Type 0 where

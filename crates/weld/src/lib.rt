@@ -4,9 +4,9 @@
 #![tactic(auto)]
 
 ghost use Rattle.std.specs.Prelude.{◌≡◌, true, ◌+◌, ◌*◌, ◌/◌, ◌<◌, ◌≤◌, length};
+ghost use Rattle.refusal.specs.Verdicts.{Passed};
 ghost use Rattle.math.specs.Vectors.{at};
 ghost use Rattle.mesh.specs.Boxes.{vertex};
-ghost use Rattle.refusal.specs.declared.Verdict.TheVariants.{Passed};
 ghost use Rattle.weld.specs.Welding.{same, find};
 ghost use Rattle.weld.specs.Questions.{whole_triangles, ask_corners, room, ask_triangles, Welds};
 ghost use Rattle.weld.specs.Steps.{first, Adds, AddsThree, Keeps, WeldsAll};

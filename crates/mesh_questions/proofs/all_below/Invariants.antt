@@ -1,13 +1,8 @@
--- `all_below` meets its contract. The invariant: the corners from place i on are vertices exactly when all are. The measure is the
--- corners that are left.
-use Prim.Native.Nat.{◌≤◌, ◌-◌}
+-- `all_below` meets its contract. The invariant: the corners from the next on are vertices exactly when all are.
 use mathlib.Core.Path.{◌≡◌}
-use lib.ListN.{length, drop}
+use lib.ListN.{drop}
 use Rattle.mesh_questions.specs.Questions.{all_below}
 use Rattle.mesh_questions.proofs.all_below.Given as goal
 
-abbrev pub invariant-loop-i : goal.invariant-loop-i
-invariant-loop-i l = (l.i ≤ length l.face) × (all_below l.vertices (drop l.i l.face) ≡ all_below l.vertices l.face)
-
-abbrev pub decreases-loop-i : goal.decreases-loop-i
-decreases-loop-i l = length l.face - l.i
+abbrev pub invariant-loop-corner : goal.invariant-loop-corner
+invariant-loop-corner l = all_below l.vertices (drop l.corner-index l.face) ≡ all_below l.vertices l.face

@@ -1,7 +1,8 @@
 use native.Mathlib.Omega.{arith}
 use mathlib.Core.Path.{◌≡◌, refl, sym, ◌∙◌}
 use lib.ListN.{length, drop, drop_of_length-le}
-use Rattle.refusal.specs.declared.Verdict.TheVariants.{Passed}
+use Rattle.std.proofs.lemmas.Result.{err_from_is_err_and}
+use Rattle.refusal.specs.Verdicts.{Passed}
 use Rattle.mesh_questions.specs.Faces.{faces, faces_from}
 use Rattle.mesh_questions.specs.Questions.{ask_faces}
 use Rattle.mesh_questions.specs.QuestionLaws.{ends_fit_le, ends_fit_step, ask_faces_next}
@@ -9,33 +10,31 @@ use Rattle.mesh_questions.proofs.ask_faces.Goals as goal
 
 pub loop-i-init : goal.loop-i-init
 unfolding faces
-loop-i-init c = (omega arith, c.requires.1, refl)
-
-pub overflow_cast-end : goal.overflow_cast-end
-overflow_cast-end c = omega (arith, c.type_inv.ends c.loop-i.i)
+loop-i-init c = (c.requires.1, refl)
 
 pub offset_bounds-corners-start : goal.offset_bounds-corners-start
-offset_bounds-corners-start c = omega (arith, ends_fit_le _ _ _ c.loop-i.invariant.1)
+offset_bounds-corners-start c = omega (arith, ends_fit_le _ _ _ c.loop-i.invariant.0)
 
 pub slice_bounds-ask_face-count : goal.slice_bounds-ask_face-count
-slice_bounds-ask_face-count c = omega (arith, (ends_fit_step c.loop-i.start (length c.args.corners.now) c.args.ends.now c.loop-i.i (omega arith) c.loop-i.invariant.1).0)
+slice_bounds-ask_face-count c = omega (arith, (ends_fit_step c.loop-i.start (length c.args.corners.now) c.args.ends.now c.loop-i.i (omega arith) c.loop-i.invariant.0).0)
 
 pub slice_bounds-ask_face-start : goal.slice_bounds-ask_face-start
-slice_bounds-ask_face-start c = omega (arith, (ends_fit_step c.loop-i.start (length c.args.corners.now) c.args.ends.now c.loop-i.i (omega arith) c.loop-i.invariant.1).0)
+slice_bounds-ask_face-start c = omega (arith, (ends_fit_step c.loop-i.start (length c.args.corners.now) c.args.ends.now c.loop-i.i (omega arith) c.loop-i.invariant.0).0)
 
 pub slice_bounds-ask_face-end : goal.slice_bounds-ask_face-end
-slice_bounds-ask_face-end c = omega (arith, (ends_fit_step c.loop-i.start (length c.args.corners.now) c.args.ends.now c.loop-i.i (omega arith) c.loop-i.invariant.1).1)
+slice_bounds-ask_face-end c = omega (arith, (ends_fit_step c.loop-i.start (length c.args.corners.now) c.args.ends.now c.loop-i.i (omega arith) c.loop-i.invariant.0).1)
 
-pub returns-in-Refused : goal.returns-in-Refused
-returns-in-Refused c =
+pub returns-in_err-ask_face : goal.returns-in_err-ask_face
+returns-in_err-ask_face c =
     let next = ask_faces_next c.args.vertices c.loop-i.i c.loop-i.start c.args.corners.now c.args.ends.now c.loop-i.i (omega arith) in
-    sym (next ∙ rw (sym c.ask_face.ensures ∙ c.in-Refused.is)) ∙ c.loop-i.invariant.2
+    let p = err_from_is_err_and c.from_residual.result c.from_residual.ensures.1 in
+    rw (p.1, p.2) (sym (next ∙ rw (sym c.in_err-ask_face.ensures)) ∙ c.loop-i.invariant.1)
 
 pub loop-i-preserved : goal.loop-i-preserved
 loop-i-preserved c =
     let next = ask_faces_next c.args.vertices c.loop-i.i c.loop-i.start c.args.corners.now c.args.ends.now c.loop-i.i (omega arith) in
-    let passed = rw (sym c.ask_face.ensures ∙ c.in_default.is) at next in
-    (omega arith, (ends_fit_step c.loop-i.start (length c.args.corners.now) c.args.ends.now c.loop-i.i (omega arith) c.loop-i.invariant.1).2, sym passed ∙ c.loop-i.invariant.2)
+    let passed = rw (sym c.in_ok-ask_face.ensures) at next in
+    ((ends_fit_step c.loop-i.start (length c.args.corners.now) c.args.ends.now c.loop-i.i (omega arith) c.loop-i.invariant.0).2, sym passed ∙ c.loop-i.invariant.1)
 
 pub returns : goal.returns
 unfolding ask_faces faces_from
@@ -43,4 +42,4 @@ returns c =
     let ends = c.args.ends.now in
     let i = c.loop-i.i in
     let end : ask_faces c.args.vertices i (faces_from c.loop-i.start c.args.corners.now (drop i ends)) ≡ Passed = rw (drop_of_length-le ends {i = i} (omega arith)) in
-    sym end ∙ c.loop-i.invariant.2
+    sym end ∙ c.loop-i.invariant.1

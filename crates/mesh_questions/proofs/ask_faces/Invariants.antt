@@ -1,6 +1,5 @@
 -- `ask_faces` meets its contract. The invariant: the ends from face i on fit behind the start, and the faces from i on, asked from number i,
--- give the answer of all. The measure is the faces that are left.
-use Prim.Native.Nat.{◌≤◌, ◌-◌}
+-- give the answer of all.
 use mathlib.Core.Path.{◌≡◌}
 use mathlib.Core.Bool.{true}
 use lib.ListN.{length, drop}
@@ -10,9 +9,5 @@ use Rattle.mesh_questions.proofs.ask_faces.Given as goal
 
 abbrev pub invariant-loop-i : goal.invariant-loop-i
 invariant-loop-i l =
-    (l.i ≤ length l.ends)
-    × (ends_fit l.start (length l.corners) (drop l.i l.ends) ≡ true)
+    (ends_fit l.start (length l.corners) (drop l.i l.ends) ≡ true)
     × (ask_faces l.vertices l.i (faces_from l.start l.corners (drop l.i l.ends)) ≡ ask_faces l.vertices 0 (faces l.corners l.ends))
-
-abbrev pub decreases-loop-i : goal.decreases-loop-i
-decreases-loop-i l = length l.ends - l.i

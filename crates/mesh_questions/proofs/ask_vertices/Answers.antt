@@ -1,12 +1,15 @@
 -- `ask_vertices` meets its contract: the first vertex that is not finite is the one that is refused.
-use mathlib.Core.Path.{sym}
-use borrow.Author.Tests.{lt-ltb, le-ltb}
+use native.Mathlib.Omega.{arith}
 use Rattle.refusal.specs.declared.Refusal.TheVariants.{NotFinite}
-use Rattle.mesh_questions.specs.QuestionLaws.{ask_finite_points}
+use Rattle.math.specs.Vectors.{points}
+use Rattle.mesh_questions.specs.QuestionLaws.{ask_finite_first}
 use Rattle.mesh_questions.proofs.ask_vertices.Goals as goal
 
-pub returns-then-v-coords : goal.returns-then-v-coords
-returns-then-v-coords c = rw (ask_finite_points NotFinite, sym c.first_not_finite-v.ensures, lt-ltb _ _ c.if-v-coords.true)
+pub overflow_cast-result : goal.overflow_cast-result
+overflow_cast-result c = omega (arith, c.in-Some.ensures.within)
 
-pub returns : goal.returns
-returns c = rw (ask_finite_points NotFinite, sym c.first_not_finite-v.ensures, le-ltb _ _ c.if-v-coords.false)
+pub returns-in-Some : goal.returns-in-Some
+returns-in-Some c = rw (ask_finite_first NotFinite 0 (points c.args.coords.now), ← c.in-Some.ensures.first)
+
+pub returns-in-None : goal.returns-in-None
+returns-in-None c = rw (ask_finite_first NotFinite 0 (points c.args.coords.now), ← c.in-None.ensures.first)

@@ -3,17 +3,16 @@ use Prim.Native.Nat.{ℕ}
 use mathlib.Core.Path.{◌≡◌, sym, ◌∙◌}
 use mathlib.Core.List.{List}
 use lib.ListN.{length}
+use Rattle.std.specs.Prelude.{Ok, Err}
 use Rattle.lent.specs.Over.{over}
 use Rattle.refusal.specs.declared.Refusal.{Refusal}
-use Rattle.refusal.specs.declared.Verdict.{Verdict}
-use Rattle.refusal.specs.declared.Verdict.TheVariants.{Passed, Refused}
-use Rattle.refusal.specs.Verdicts.{written}
+use Rattle.refusal.specs.Verdicts.{Passed, Verdict, written}
 use Rattle.mesh.specs.Mesh.{Mesh, mesh}
 use Rattle.tree.specs.Tree.{Tree}
 use Rattle.tree_check.specs.Check.{ask_room, check_answer, AsksTree, Checks, room_passed}
 use Rattle.tree_check.proofs.check_tree.Goals as goal
 
-refused : (m : Mesh) (t : Tree) (work : List ℕ) (refusal : Refusal) → ask_room m (length work) ≡ Refused refusal → Checks m t work (Refused refusal) work
+refused : (m : Mesh) (t : Tree) (work : List ℕ) (refusal : Refusal) → ask_room m (length work) ≡ Err refusal → Checks m t work (Err refusal) work
 unfolding check_answer written over
 refused m t work refusal e = record { answer = rw e; work = rw e }
 

@@ -4,10 +4,10 @@ use Prim.Native.Nat.{ℕ}
 use mathlib.Core.Path.{◌≡◌, sym, ◌∙◌}
 use mathlib.Core.List.{List}
 use lib.Ieee.{Float}
+use Rattle.std.specs.Prelude.{Ok, Err}
 use Rattle.lent.specs.Over.{over}
 use Rattle.refusal.specs.declared.Refusal.{Refusal}
-use Rattle.refusal.specs.declared.Verdict.TheVariants as Verdicts
-use Rattle.refusal.specs.Verdicts.{written}
+use Rattle.refusal.specs.Verdicts.{Passed, written}
 use Rattle.weld.specs.declared.Counts.{Counts}
 use Rattle.weld.specs.declared.Welded.TheVariants.{Refused, Sizes}
 use Rattle.weld.specs.Questions.{verdict, weld_answer, Welds}
@@ -15,13 +15,13 @@ use Rattle.weld.specs.Steps.{WeldsAll}
 use Rattle.weld.specs.Passed.{triangles_passed}
 use Rattle.weld.proofs.from_triangles.Goals as goal
 
-refused : (triangles coords : List Float) (corners ends : List ℕ) (refusal : Refusal) → verdict triangles coords corners ends ≡ Verdicts.Refused refusal
-    → Welds triangles coords corners ends (Refused refusal) coords corners ends
+refused : (triangles coords : List Float) (corners ends : List ℕ) (refusal : Refusal) → verdict triangles coords corners ends ≡ Err refusal
+    → Welds triangles coords corners ends (Err refusal) coords corners ends
 unfolding weld_answer written over
 refused triangles coords corners ends refusal e = record { answer = rw e; coords = rw e; corners = rw e; ends = rw e }
 
 passed : (triangles coords : List Float) (corners ends : List ℕ) (counts : Counts) (coords' : List Float) (corners' ends' : List ℕ)
-    → verdict triangles coords corners ends ≡ Verdicts.Passed
+    → verdict triangles coords corners ends ≡ Passed
     → WeldsAll triangles coords corners ends counts coords' corners' ends'
     → Welds triangles coords corners ends (Sizes counts.vertices counts.faces) coords' corners' ends'
 unfolding weld_answer written

@@ -2,7 +2,7 @@
 -- what it leaves in the buffers.
 use mathlib.Core.Path.{◌≡◌, sym, ◌∙◌}
 use borrow.Author.Tests.{lt-leb}
-use Rattle.refusal.specs.declared.Verdict.TheVariants.{Refused}
+use Rattle.std.specs.Prelude.{Ok, Err}
 use Rattle.refusal.specs.declared.Refusal.TheVariants.{Room}
 use Rattle.c_meshes.specs.Welding.{verdict}
 use Rattle.c_meshes.proofs.Welding.{refused, welding_refused, welding_passed}
@@ -13,7 +13,7 @@ unfolding verdict
 returns-in-Refused c =
     let a = c.args in
     let asked = sym c.ask_triangles-asked.ensures ∙ c.in-Refused.is in
-    let said : verdict a.triangles.now a.coords.now a.corners.now a.ends.now a.sizes.now ≡ Refused c.in-Refused.refusal = rw asked in
+    let said : verdict a.triangles.now a.coords.now a.corners.now a.ends.now a.sizes.now ≡ Err c.in-Refused.refusal = rw asked in
     rw c.code.ensures (refused a.triangles.now a.coords.now a.corners.now a.ends.now a.sizes.now _ said)
 
 pub returns-in-Passed : goal.returns-in-Passed
@@ -22,7 +22,7 @@ returns-in-Passed c =
     let a = c.args in
     let asked = sym c.ask_triangles-asked.ensures ∙ c.in-Passed.is in
     let short = lt-leb _ _ c.if-sizes-lt2.true in
-    let said : verdict a.triangles.now a.coords.now a.corners.now a.ends.now a.sizes.now ≡ Refused Room = rw (asked, short) in
+    let said : verdict a.triangles.now a.coords.now a.corners.now a.ends.now a.sizes.now ≡ Err Room = rw (asked, short) in
     rw c.code-in-Passed.ensures (refused a.triangles.now a.coords.now a.corners.now a.ends.now a.sizes.now Room said)
 
 pub returns-in-Refused-welded : goal.returns-in-Refused-welded

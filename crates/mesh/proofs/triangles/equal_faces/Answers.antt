@@ -9,31 +9,23 @@ use Rattle.mesh.specs.Triangles.{equal_faces}
 use Rattle.mesh.specs.TriangleLaws.{equal_faces_next}
 use Rattle.mesh.proofs.triangles.equal_faces.Goals as goal
 
-pub loop-i-init : goal.loop-i-init
-loop-i-init c = (omega arith, omega arith, refl)
-
-pub overflow_cast-end : goal.overflow_cast-end
-overflow_cast-end c = omega (arith, c.type_inv.ends c.loop-i.i)
-
 pub overflow_add-start : goal.overflow_add-start
-overflow_add-start c = omega (arith, c.requires)
+overflow_add-start c = omega (arith, c.requires, c.loop-end.invariant.0)
 
 pub returns-then-end-start : goal.returns-then-end-start
 returns-then-end-start c =
-    let ends = c.args.ends.now in
-    let other : eqb (get_or ends c.loop-i.i 0) (c.loop-i.start + c.args.sides) ≡ false = ne_eqb _ _ c.if-end-start.true in
-    sym (equal_faces_next c.args.sides c.loop-i.start ends c.loop-i.i (omega arith) ∙ rw other) ∙ c.loop-i.invariant.2
+    let l = c.loop-end in
+    let other : eqb (get_or c.args.ends.now l.end-index 0) (l.start + c.args.sides) ≡ false = ne_eqb _ _ c.if-end-start.true in
+    sym (equal_faces_next c.args.sides l.start c.args.ends.now l.end-index (omega arith) ∙ rw other) ∙ l.invariant.1
 
-pub loop-i-preserved : goal.loop-i-preserved
-loop-i-preserved c =
+pub loop-end-preserved : goal.loop-end-preserved
+loop-end-preserved c =
+    let l = c.loop-end in
     let ends = c.args.ends.now in
-    let same : eqb (get_or ends c.loop-i.i 0) (c.loop-i.start + c.args.sides) ≡ true = eq-eqb _ _ c.if-end-start.false in
-    let next = equal_faces_next c.args.sides c.loop-i.start ends c.loop-i.i (omega arith) in
-    (omega arith, omega (arith, c.type_inv.ends c.loop-i.i), rw same at (sym next) ∙ c.loop-i.invariant.2)
+    let same : eqb (get_or ends l.end-index 0) (l.start + c.args.sides) ≡ true = eq-eqb _ _ c.if-end-start.false in
+    let next = equal_faces_next c.args.sides l.start ends l.end-index (omega arith) in
+    (omega (arith, c.type_inv.ends l.end-index), rw same at (sym next) ∙ l.invariant.1)
 
 pub returns : goal.returns
 unfolding equal_faces
-returns c =
-    let ends = c.args.ends.now in
-    let end : equal_faces c.args.sides c.loop-i.start (drop c.loop-i.i ends) ≡ true = rw (drop_of_length-le ends {i = c.loop-i.i} (omega arith)) in
-    sym end ∙ c.loop-i.invariant.2
+returns c = rw (drop_of_length-le c.args.ends.now {i = c.loop-end.end-index} (omega arith)) at c.loop-end.invariant.1
