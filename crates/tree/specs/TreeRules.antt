@@ -39,3 +39,8 @@ pub record TreeRules (m : Mesh) (t : Tree) : Type 0 where
   pub once : (k : ℕ) → k < triangle_count m → count k t.items ≡ 1
   -- no nodes exactly when there are no triangles; else node 0 is the root of all nodes, over all item places, with paths of at most 32 nodes
   pub tree : ((triangle_count m ≡ 0) × (node_count t ≡ 0)) ⊎ ((0 < triangle_count m) × Subtree m t 32 0 0 (node_count t) (triangle_count m))
+
+-- a mesh, and a tree for it
+pub record AcceptedTree : Type 0 where
+  pub mesh : Mesh
+  pub tree : Tree

@@ -1,7 +1,7 @@
 -- The test that computes the tree rules. A node's box is compared with the join of the own boxes below it. Definitions, and the
 -- laws that the code's walk uses; specs/TreeTheorem.antt says that the test and the rules agree.
 use Prim.Native.Nat.{ℕ, zero, suc, ◌+◌, ◌-◌, ◌*◌, ◌≤◌, ◌<◌}
-use Rattle.std.specs.Prelude.{Bool, false, cond, ◌&&◌, ◌≡◌, refl, eqb, leb, ltb, length}
+use Rattle.std.specs.Prelude.{Option, Some, None, Bool, false, cond, ◌&&◌, ◌≡◌, refl, eqb, leb, ltb, length}
 use native.Mathlib.Omega.{arith}
 use Rattle.std.proofs.Common.{◌∙◌}
 use borrow.Author.Tests.{eq-eqb, ne_eqb, lt-ltb, le-ltb}
@@ -10,11 +10,11 @@ use Rattle.math.specs.declared.BoundingBox.{BoundingBox}
 use Rattle.mesh_questions.specs.Accepted.{Accepted}
 use Rattle.mesh.specs.Fans.{length_fans}
 use Rattle.mesh_questions.specs.Faces.{faces}
+use Rattle.mesh.specs.Items.{Items}
 use Rattle.mesh.specs.Triangles as Triangles
 use Rattle.mesh.specs.Mesh.{Mesh, triangle_count, own_box}
 use Rattle.math.specs.Boxes.{encloses, join}
 use Rattle.tree.specs.declared.Walked.{Walked}
-use Rattle.tree.specs.declared.Walked.TheVariants.{Fault, Ends}
 use Rattle.tree.specs.Tree.{Tree, node_count, box_of, start_of, count_of, item_at}
 
 -- box b joined with the own boxes of the triangles at `places` item places from i on
@@ -26,36 +26,40 @@ join_from m t b i (suc places) = join_from m t (join b (own_box m (item_at t i))
 unfoldable pub join_items : Mesh → Tree → ℕ → ℕ → BoundingBox
 join_items m t i places = join_from m t (own_box m (item_at t i)) (i + 1) (places - 1)
 
+-- what the walk finds behind a subtree
+abbrev pub walked : ℕ → ℕ → BoundingBox → Walked
+walked node item joined = record { node = node; item = item; joined = joined }
+
 -- box b has to enclose what lies below it
-unfoldable pub boxed_by : BoundingBox → Walked → Walked
-boxed_by b Fault = Fault
-boxed_by b (Ends node item joined) = cond (encloses b joined) (Ends node item joined) Fault
+unfoldable pub boxed_by : BoundingBox → Option Walked → Option Walked
+boxed_by b None = None
+boxed_by b (Some w) = cond (encloses b w.joined) (Some w) None
 
 -- a node's box has to
-abbrev pub boxed : Tree → ℕ → Walked → Walked
-boxed t n walked = boxed_by (box_of t n) walked
+abbrev pub boxed : Tree → ℕ → Option Walked → Option Walked
+boxed t n w = boxed_by (box_of t n) w
 
 -- what lies below the right child is joined to what lies below the left one
-unfoldable pub with_left : BoundingBox → Walked → Walked
-with_left left Fault = Fault
-with_left left (Ends node item right) = Ends node item (join left right)
+unfoldable pub with_left : BoundingBox → Option Walked → Option Walked
+with_left left None = None
+with_left left (Some w) = Some (walked w.node w.item (join left w.joined))
 
 -- the right child follows where the left subtree ends, and that is where the node says
-unfoldable pub right_child : (ℕ → ℕ → Walked) → ℕ → Walked → Walked
-right_child walk start Fault = Fault
-right_child walk start (Ends node item left) = cond (eqb node start) (with_left left (walk node item)) Fault
+unfoldable pub right_child : (ℕ → ℕ → Option Walked) → ℕ → Option Walked → Option Walked
+right_child walk start None = None
+right_child walk start (Some w) = cond (eqb w.node start) (with_left w.joined (walk w.node w.item)) None
 
 -- the walk at a leaf: it has at most four items, they begin at place i and are in the list
-unfoldable pub leaf_walk : Mesh → Tree → ℕ → ℕ → Walked
+unfoldable pub leaf_walk : Mesh → Tree → ℕ → ℕ → Option Walked
 leaf_walk m t n i =
     cond
     (leb (count_of t n) 4 && eqb (start_of t n) i && leb (i + count_of t n) (length t.items))
-    (boxed t n (Ends (n + 1) (i + count_of t n) (join_items m t i (count_of t n))))
-    Fault
+    (boxed t n (Some (walked (n + 1) (i + count_of t n) (join_items m t i (count_of t n)))))
+    None
 
 -- the walk over the subtree of node n, whose items begin at place i, with at most `depth` nodes on a path
-unfoldable pub walk : Mesh → Tree → ℕ → ℕ → ℕ → Walked
-walk m t zero n i = Fault
+unfoldable pub walk : Mesh → Tree → ℕ → ℕ → ℕ → Option Walked
+walk m t zero n i = None
 walk m t (suc depth) n i =
     cond
     (ltb n (node_count t))
@@ -63,12 +67,12 @@ walk m t (suc depth) n i =
     (eqb (count_of t n) 0)
     (boxed t n (right_child (walk m t depth) (start_of t n) (walk m t depth (n + 1) i)))
     (leaf_walk m t n i))
-    Fault
+    None
 
 -- whether a walk ended here
-unfoldable pub ends_at : Walked → ℕ → ℕ → Bool
-ends_at Fault n i = false
-ends_at (Ends node item joined) n i = eqb node n && eqb item i
+unfoldable pub ends_at : Option Walked → ℕ → ℕ → Bool
+ends_at None n i = false
+ends_at (Some w) n i = eqb w.node n && eqb w.item i
 
 -- no nodes if there are no triangles; else the root's subtree has all nodes and all item places
 unfoldable pub root_test : Mesh → Tree → Bool
@@ -83,13 +87,11 @@ tree_test m t =
     && once_below (triangle_count m) t.items
     && root_test m t
 
--- what the walk takes for granted of an accepted mesh, of `sides`, which says how triangles are found in it, and of the lent lists
-pub record Lent (m : Mesh) (given : ℕ) (t : Tree) : Type 0 where
-  pub accepted : Accepted m.coords m.corners m.ends
-  pub sides : given ≡ Triangles.sides m.ends
+-- what the walk takes for granted of the lent lists
+pub record Lent (m : Mesh) (t : Tree) : Type 0 where
   pub boxes : length t.boxes ≡ 6 * node_count t
   pub nodes : length t.nodes ≡ 2 * node_count t
-  pub items : (k : ℕ) → k < length t.items → item_at t k < length m.corners - 2 * length m.ends
+  pub items : Items m t.items
 
 -- the triangles of an accepted mesh: two a face fewer than corners
 pub triangle_count_accepted : (m : Mesh) → Accepted m.coords m.corners m.ends → triangle_count m + 2 * length m.ends ≡ length m.corners
@@ -104,7 +106,7 @@ join_from_next m t b k end h =
     rw more
 
 -- a node that the tree does not have
-pub walk_out : (m : Mesh) (t : Tree) (depth n i : ℕ) → node_count t ≤ n → walk m t depth n i ≡ Fault
+pub walk_out : (m : Mesh) (t : Tree) (depth n i : ℕ) → node_count t ≤ n → walk m t depth n i ≡ None
 unfolding walk
 walk_out m t zero n i h = refl
 walk_out m t (suc depth) n i h = rw (le-ltb n (node_count t) h)
@@ -126,16 +128,16 @@ module _ (m : Mesh) (t : Tree) (depth n i : ℕ) (some : 0 < depth) (h : n < nod
       rw (lt-ltb n (node_count t) h, eq-eqb (count_of t n) 0 none, fewer)
 
   -- an inner node with a fault below its left child
-  pub left_faults : walk m t (depth - 1) (n + 1) i ≡ Fault → walk m t depth n i ≡ Fault
+  pub left_faults : walk m t (depth - 1) (n + 1) i ≡ None → walk m t depth n i ≡ None
   unfolding right_child boxed_by
   left_faults e = inner_walk depth some ∙ rw e
 
   -- an inner node whose right child is not where its left subtree ends
-  pub left_ends_elsewhere : (node item : ℕ) (joined : BoundingBox) → walk m t (depth - 1) (n + 1) i ≡ Ends node item joined → (node ≡ start_of t n → ⊥) → walk m t depth n i ≡ Fault
+  pub left_ends_elsewhere : (node item : ℕ) (joined : BoundingBox) → walk m t (depth - 1) (n + 1) i ≡ Some (walked node item joined) → (node ≡ start_of t n → ⊥) → walk m t depth n i ≡ None
   unfolding right_child boxed_by
   left_ends_elsewhere node item joined e apart = inner_walk depth some ∙ rw (e, ne_eqb node (start_of t n) apart)
 
   -- an inner node whose right child is
-  pub right_follows : (node item : ℕ) (joined : BoundingBox) → walk m t (depth - 1) (n + 1) i ≡ Ends node item joined → node ≡ start_of t n → walk m t depth n i ≡ boxed t n (with_left joined (walk m t (depth - 1) node item))
+  pub right_follows : (node item : ℕ) (joined : BoundingBox) → walk m t (depth - 1) (n + 1) i ≡ Some (walked node item joined) → node ≡ start_of t n → walk m t depth n i ≡ boxed t n (with_left joined (walk m t (depth - 1) node item))
   unfolding right_child
   right_follows node item joined e there = inner_walk depth some ∙ rw (e, eq-eqb node (start_of t n) there)

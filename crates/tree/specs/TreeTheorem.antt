@@ -4,7 +4,7 @@ use Prim.Native.Nat.{ℕ, zero, suc, ◌+◌, ◌-◌, ◌*◌, ◌≤◌, ◌<�
 use Rattle.std.proofs.Common.{eq-or-lt_of_le, sym, ◌∙◌, inl, inr, true≢false}
 use native.Mathlib.Omega.{arith}
 use Rattle.std.proofs.Math.Path.{◌≡◌, refl, ap, subst}
-use Rattle.std.specs.Prelude.{◌⊎◌, Bool, ◌&&◌, List, ltb, length}
+use Rattle.std.specs.Prelude.{Option, Some, None, ◌⊎◌, Bool, ◌&&◌, List, ltb, length}
 use Rattle.std.proofs.Math.Logic.{⊎_elim}
 use Rattle.std.proofs.Math.Bool.{true, false, cond, and-true, and_assoc}
 use Rattle.std.proofs.Math.Dec.{eqb, leb}
@@ -16,10 +16,9 @@ use Rattle.math.specs.declared.BoundingBox.{BoundingBox}
 use Rattle.mesh.specs.Mesh.{Mesh, triangle_count, own_box}
 use Rattle.math.specs.Boxes.{encloses, join}
 use Rattle.tree.specs.declared.Walked.{Walked}
-use Rattle.tree.specs.declared.Walked.TheVariants.{Fault, Ends}
 use Rattle.tree.specs.Tree.{Tree, node_count, box_of, start_of, count_of, item_at}
 use Rattle.tree.specs.TreeRules.{Around, Subtree, leaf, inner, TreeRules}
-use Rattle.tree.specs.TreeTest.{join_from, join_items, boxed_by, boxed, with_left, right_child, leaf_walk, walk, ends_at, root_test, tree_test}
+use Rattle.tree.specs.TreeTest.{walked, join_from, join_items, boxed_by, boxed, with_left, right_child, leaf_walk, walk, ends_at, root_test, tree_test}
 use Rattle.tree.specs.JoinLaws.{NumberBox, encloses_join, join_numbers, own_box_numbers}
 
 below : (j k : ℕ) → j < suc k → j ≤ k
@@ -28,6 +27,12 @@ below j k h = omega arith
 positive : (k : ℕ) → eqb k 0 ≡ false → 1 ≤ k
 positive zero e = absurd (eqb-false 0 0 e refl)
 positive (suc k) e = omega arith
+
+-- what is found is found part by part
+same_walked : (w : Walked) (node item : ℕ) (joined : BoundingBox) → Some w ≡ Some (walked node item joined) → (w.node ≡ node) × (w.item ≡ item) × (w.joined ≡ joined)
+same_walked w node item joined e =
+    let same : w ≡ walked node item joined = cc in
+    (ap (λ (v : Walked). v.node) same, ap (λ (v : Walked). v.item) same, ap (λ (v : Walked). v.joined) same)
 
 module _ (m : Mesh) (t : Tree) where
   -- ---- boxes around item places
@@ -101,54 +106,55 @@ module _ (m : Mesh) (t : Tree) where
     encloses_all : (c : BoundingBox) → encloses c joined ≡ around c i (item - i)
 
   -- what a tested box says
-  boxed_ends : (n : ℕ) (w : Walked) (node item : ℕ) (joined : BoundingBox) → boxed t n w ≡ Ends node item joined → (w ≡ Ends node item joined) × (encloses (box_of t n) joined ≡ true)
+  boxed_ends : (n : ℕ) (w : Option Walked) (node item : ℕ) (joined : BoundingBox) → boxed t n w ≡ Some (walked node item joined) → (w ≡ Some (walked node item joined)) × (encloses (box_of t n) joined ≡ true)
   unfolding boxed_by
-  boxed_ends n Fault node item joined e = (cc, cc)
-  boxed_ends n (Ends a b c) node item joined e = tested (encloses (box_of t n) c) refl e
+  boxed_ends n None node item joined e = (cc, cc)
+  boxed_ends n (Some w) node item joined e = tested (encloses (box_of t n) w.joined) refl e
     where
-      tested : (d : Bool) → encloses (box_of t n) c ≡ d → cond d (Ends a b c) Fault ≡ Ends node item joined → (Ends a b c ≡ Ends node item joined) × (encloses (box_of t n) joined ≡ true)
-      tested true within e =
-          let same : c ≡ joined = cc in
-          (e, rw same at within)
+      tested : (d : Bool) → encloses (box_of t n) w.joined ≡ d → cond d (Some w) None ≡ Some (walked node item joined) → (Some w ≡ Some (walked node item joined)) × (encloses (box_of t n) joined ≡ true)
+      tested true within e = (e, rw (same_walked w node item joined e).2 at within)
       tested false without e = (cc, cc)
 
   -- what a right child says
-  record Children (next : ℕ → ℕ → Walked) (start : ℕ) (w : Walked) (node item : ℕ) (joined : BoundingBox) : Type 0 where
+  record Children (next : ℕ → ℕ → Option Walked) (start : ℕ) (w : Option Walked) (node item : ℕ) (joined : BoundingBox) : Type 0 where
     middle : ℕ
     left : BoundingBox
     right : BoundingBox
-    first : w ≡ Ends start middle left
-    second : next start middle ≡ Ends node item right
+    first : w ≡ Some (walked start middle left)
+    second : next start middle ≡ Some (walked node item right)
     both_joined : joined ≡ join left right
 
-  with_left_ends : (left : BoundingBox) (w : Walked) (node item : ℕ) (joined : BoundingBox) → with_left left w ≡ Ends node item joined → (right : BoundingBox) × (w ≡ Ends node item right) × (joined ≡ join left right)
+  with_left_ends : (left : BoundingBox) (w : Option Walked) (node item : ℕ) (joined : BoundingBox) → with_left left w ≡ Some (walked node item joined) → (right : BoundingBox) × (w ≡ Some (walked node item right)) × (joined ≡ join left right)
   unfolding with_left
-  with_left_ends left Fault node item joined e = (left, cc, cc)
-  with_left_ends left (Ends a b right) node item joined e = (right, cc, cc)
+  with_left_ends left None node item joined e = (left, cc, cc)
+  with_left_ends left (Some w) node item joined e =
+      let same = same_walked (walked w.node w.item (join left w.joined)) node item joined e in
+      (w.joined, rw (same.0, same.1), sym same.2)
 
-  right_ends : (next : ℕ → ℕ → Walked) (start : ℕ) (w : Walked) (node item : ℕ) (joined : BoundingBox) → right_child next start w ≡ Ends node item joined → Children next start w node item joined
+  right_ends : (next : ℕ → ℕ → Option Walked) (start : ℕ) (w : Option Walked) (node item : ℕ) (joined : BoundingBox) → right_child next start w ≡ Some (walked node item joined) → Children next start w node item joined
   unfolding right_child
-  right_ends next start Fault node item joined e = let z : ◌≡◌ {A = ℕ} 0 1 = cc in absurd (omega arith)
-  right_ends next start (Ends a b left) node item joined e = met (eqb a start) refl e
+  right_ends next start None node item joined e = let z : ◌≡◌ {A = ℕ} 0 1 = cc in absurd (omega arith)
+  right_ends next start (Some w) node item joined e = met (eqb w.node start) refl e
     where
-      met : (c : Bool) → eqb a start ≡ c → cond c (with_left left (next a b)) Fault ≡ Ends node item joined → Children next start (Ends a b left) node item joined
+      met : (c : Bool) → eqb w.node start ≡ c → cond c (with_left w.joined (next w.node w.item)) None ≡ Some (walked node item joined) → Children next start (Some w) node item joined
       met true there e =
-          let same = eqb-true a start there in
-          let found = with_left_ends left (next a b) node item joined e in
-          record { middle = b; left = left; right = found.0; first = ap (λ (k : ℕ). Ends k b left) same; second = subst (λ (k : ℕ). next k b ≡ Ends node item found.0) same found.1; both_joined = found.2 }
+          let same = eqb-true w.node start there in
+          let found = with_left_ends w.joined (next w.node w.item) node item joined e in
+          record { middle = w.item; left = w.joined; right = found.0; first = ap (λ (k : ℕ). Some (walked k w.item w.joined)) same; second = subst (λ (k : ℕ). next k w.item ≡ Some (walked node item found.0)) same found.1; both_joined = found.2 }
       met false apart e = let z : ◌≡◌ {A = ℕ} 0 1 = cc in absurd (omega arith)
 
   -- ---- sound
 
-  leaf_says : (depth n i node item : ℕ) (joined : BoundingBox) → eqb (count_of t n) 0 ≡ false → (b : Bool) → leb (count_of t n) 4 && eqb (start_of t n) i && leb (i + count_of t n) (length t.items) ≡ b → cond b (boxed t n (Ends (n + 1) (i + count_of t n) (join_items m t i (count_of t n)))) Fault ≡ Ends node item joined → Says (suc depth) n i node item joined
+  leaf_says : (depth n i node item : ℕ) (joined : BoundingBox) → eqb (count_of t n) 0 ≡ false → (b : Bool) → leb (count_of t n) 4 && eqb (start_of t n) i && leb (i + count_of t n) (length t.items) ≡ b → cond b (boxed t n (Some (walked (n + 1) (i + count_of t n) (join_items m t i (count_of t n))))) None ≡ Some (walked node item joined) → Says (suc depth) n i node item joined
   leaf_says depth n i node item joined some false test e = let z : ◌≡◌ {A = ℕ} 0 1 = cc in absurd (omega arith)
   leaf_says depth n i node item joined some true test e =
       let outer = both (leb (count_of t n) 4 && eqb (start_of t n) i) (leb (i + count_of t n) (length t.items)) test in
       let parts = both (leb (count_of t n) 4) (eqb (start_of t n) i) outer.0 in
-      let here = boxed_ends n (Ends (n + 1) (i + count_of t n) (join_items m t i (count_of t n))) node item joined e in
-      let next : n + 1 ≡ node = cc in
-      let end : i + count_of t n ≡ item = cc in
-      let box : join_items m t i (count_of t n) ≡ joined = cc in
+      let here = boxed_ends n (Some (walked (n + 1) (i + count_of t n) (join_items m t i (count_of t n)))) node item joined e in
+      let same = same_walked (walked (n + 1) (i + count_of t n) (join_items m t i (count_of t n))) node item joined here.0 in
+      let next : n + 1 ≡ node = same.0 in
+      let end : i + count_of t n ≡ item = same.1 in
+      let box : join_items m t i (count_of t n) ≡ joined = same.2 in
       let any = positive (count_of t n) some in
       let long : item - i ≡ count_of t n = omega arith in
       let all : (c : BoundingBox) → encloses c joined ≡ around c i (item - i) = λ c. rw (← box, long) (join_items_encloses c i (count_of t n) any) in
@@ -169,7 +175,7 @@ module _ (m : Mesh) (t : Tree) where
       let seam : i + (middle - i) ≡ middle = omega arith in
       rw (encloses_join b l r left.numbers right.numbers, left.encloses_all b, right.encloses_all b, split, around_append b i (middle - i) (item - middle), seam)
 
-  inner_says : (depth n i node item : ℕ) (joined : BoundingBox) → ((n i node item : ℕ) (joined : BoundingBox) → walk m t depth n i ≡ Ends node item joined → Says depth n i node item joined) → eqb (count_of t n) 0 ≡ true → boxed t n (right_child (walk m t depth) (start_of t n) (walk m t depth (n + 1) i)) ≡ Ends node item joined → Says (suc depth) n i node item joined
+  inner_says : (depth n i node item : ℕ) (joined : BoundingBox) → ((n i node item : ℕ) (joined : BoundingBox) → walk m t depth n i ≡ Some (walked node item joined) → Says depth n i node item joined) → eqb (count_of t n) 0 ≡ true → boxed t n (right_child (walk m t depth) (start_of t n) (walk m t depth (n + 1) i)) ≡ Some (walked node item joined) → Says (suc depth) n i node item joined
   inner_says depth n i node item joined below none e =
       let here = boxed_ends n _ node item joined e in
       let c = right_ends (walk m t depth) (start_of t n) _ node item joined here.0 in
@@ -186,7 +192,7 @@ module _ (m : Mesh) (t : Tree) where
         encloses_all = all;
       }
 
-  node_says : (depth n i node item : ℕ) (joined : BoundingBox) → ((n i node item : ℕ) (joined : BoundingBox) → walk m t depth n i ≡ Ends node item joined → Says depth n i node item joined) → (a b : Bool) → eqb (count_of t n) 0 ≡ b → cond a (cond b (boxed t n (right_child (walk m t depth) (start_of t n) (walk m t depth (n + 1) i))) (leaf_walk m t n i)) Fault ≡ Ends node item joined → Says (suc depth) n i node item joined
+  node_says : (depth n i node item : ℕ) (joined : BoundingBox) → ((n i node item : ℕ) (joined : BoundingBox) → walk m t depth n i ≡ Some (walked node item joined) → Says depth n i node item joined) → (a b : Bool) → eqb (count_of t n) 0 ≡ b → cond a (cond b (boxed t n (right_child (walk m t depth) (start_of t n) (walk m t depth (n + 1) i))) (leaf_walk m t n i)) None ≡ Some (walked node item joined) → Says (suc depth) n i node item joined
   unfolding leaf_walk
   node_says depth n i node item joined below false b test e = let z : ◌≡◌ {A = ℕ} 0 1 = cc in absurd (omega arith)
   node_says depth n i node item joined below true true none e = inner_says depth n i node item joined below none e
@@ -194,7 +200,7 @@ module _ (m : Mesh) (t : Tree) where
       leaf_says depth n i node item joined some (leb (count_of t n) 4 && eqb (start_of t n) i && leb (i + count_of t n) (length t.items)) refl e
 
   -- a walk that ends without a fault has seen a subtree
-  walk_sound : (depth n i node item : ℕ) (joined : BoundingBox) → walk m t depth n i ≡ Ends node item joined → Says depth n i node item joined
+  walk_sound : (depth n i node item : ℕ) (joined : BoundingBox) → walk m t depth n i ≡ Some (walked node item joined) → Says depth n i node item joined
   unfolding walk
   walk_sound zero n i node item joined e = let z : ◌≡◌ {A = ℕ} 0 1 = cc in absurd (omega arith)
   walk_sound (suc depth) n i node item joined e =
@@ -211,18 +217,18 @@ module _ (m : Mesh) (t : Tree) where
       (omega (arith, l.0, r.0), omega (arith, l.1, r.1))
 
   -- a box around all that lies below passes its test
-  boxed_passes : (n i node item : ℕ) (joined : BoundingBox) → i ≤ item → Around m t n i item → encloses (box_of t n) joined ≡ around (box_of t n) i (item - i) → boxed t n (Ends node item joined) ≡ Ends node item joined
+  boxed_passes : (n i node item : ℕ) (joined : BoundingBox) → i ≤ item → Around m t n i item → encloses (box_of t n) joined ≡ around (box_of t n) i (item - i) → boxed t n (Some (walked node item joined)) ≡ Some (walked node item joined)
   unfolding boxed_by
   boxed_passes n i node item joined h a e =
       let whole : i + (item - i) ≡ item = omega arith in
       let all : (k : ℕ) → i ≤ k → k < i + (item - i) → encloses (box_of t n) (own_box m (item_at t k)) ≡ true = rw whole a in
       rw (e, around_complete (box_of t n) i (item - i) all)
 
-  children_walked : (next : ℕ → ℕ → Walked) (start middle node item : ℕ) (l r : BoundingBox) (w : Walked) → w ≡ Ends start middle l → next start middle ≡ Ends node item r → right_child next start w ≡ Ends node item (join l r)
+  children_walked : (next : ℕ → ℕ → Option Walked) (start middle node item : ℕ) (l r : BoundingBox) (w : Option Walked) → w ≡ Some (walked start middle l) → next start middle ≡ Some (walked node item r) → right_child next start w ≡ Some (walked node item (join l r))
   unfolding right_child with_left
   children_walked next start middle node item l r w e f = rw (e, eq-eqb start start refl, f)
 
-  inner_complete : (depth n i middle node item : ℕ) (l r : BoundingBox) → n < node_count t → count_of t n ≡ 0 → walk m t depth (n + 1) i ≡ Ends (start_of t n) middle l → walk m t depth (start_of t n) middle ≡ Ends node item r → i ≤ item → Around m t n i item → walk m t (suc depth) n i ≡ Ends node item (join l r)
+  inner_complete : (depth n i middle node item : ℕ) (l r : BoundingBox) → n < node_count t → count_of t n ≡ 0 → walk m t depth (n + 1) i ≡ Some (walked (start_of t n) middle l) → walk m t depth (start_of t n) middle ≡ Some (walked node item r) → i ≤ item → Around m t n i item → walk m t (suc depth) n i ≡ Some (walked node item (join l r))
   unfolding walk
   inner_complete depth n i middle node item l r h none first second le a =
       let all = children_encloses depth n i middle node item l r (box_of t n) (walk_sound depth (n + 1) i (start_of t n) middle l first) (walk_sound depth (start_of t n) middle node item r second) in
@@ -230,7 +236,7 @@ module _ (m : Mesh) (t : Tree) where
       (lt-ltb n (node_count t) h, eq-eqb (count_of t n) 0 none, children_walked (walk m t depth) (start_of t n) middle node item l r (walk m t depth (n + 1) i) first second)
       (boxed_passes n i node item (join l r) le a all)
 
-  leaf_complete : (depth n i node item : ℕ) → n < node_count t → 1 ≤ count_of t n → count_of t n ≤ 4 → start_of t n ≡ i → node ≡ n + 1 → item ≡ i + count_of t n → item ≤ length t.items → Around m t n i item → walk m t (suc depth) n i ≡ Ends node item (join_items m t i (count_of t n))
+  leaf_complete : (depth n i node item : ℕ) → n < node_count t → 1 ≤ count_of t n → count_of t n ≤ 4 → start_of t n ≡ i → node ≡ n + 1 → item ≡ i + count_of t n → item ≤ length t.items → Around m t n i item → walk m t (suc depth) n i ≡ Some (walked node item (join_items m t i (count_of t n)))
   unfolding walk leaf_walk
   leaf_complete depth n i node item h any few start next end items a =
       let long : item - i ≡ count_of t n = omega arith in
@@ -241,7 +247,7 @@ module _ (m : Mesh) (t : Tree) where
       (boxed_passes n i node item (join_items m t i (count_of t n)) (omega arith) a same)
 
   -- a subtree within the tree's nodes and items is walked without a fault
-  walk_complete : {depth n i node item : ℕ} → Subtree m t depth n i node item → node ≤ node_count t → item ≤ length t.items → (joined : BoundingBox) × (walk m t depth n i ≡ Ends node item joined)
+  walk_complete : {depth n i node item : ℕ} → Subtree m t depth n i node item → node ≤ node_count t → item ≤ length t.items → (joined : BoundingBox) × (walk m t depth n i ≡ Some (walked node item joined))
   walk_complete (leaf {depth} {n} {i} {node} {item} any few start next end a) nodes items =
       (join_items m t i (count_of t n), leaf_complete depth n i node item (omega arith) any few start next end items a)
   walk_complete (inner {depth} {n} {i} {middle} {node} {item} none left right a) nodes items =
@@ -266,12 +272,12 @@ unfolding once_below
 once_complete zero items h = refl
 once_complete (suc k) items h = rw (eq-eqb _ _ (h k (omega arith))) (once_complete k items (λ j less. h j (omega arith)))
 
-ends_sound : (w : Walked) (n i : ℕ) → ends_at w n i ≡ true → (joined : BoundingBox) × (w ≡ Ends n i joined)
+ends_sound : (w : Option Walked) (n i : ℕ) → ends_at w n i ≡ true → (joined : BoundingBox) × (w ≡ Some (walked n i joined))
 unfolding ends_at
-ends_sound Fault n i e = absurd (true≢false (sym e))
-ends_sound (Ends node item joined) n i e =
-    let parts = both (eqb node n) (eqb item i) e in
-    (joined, rw (eqb-true node n parts.0, eqb-true item i parts.1))
+ends_sound None n i e = absurd (true≢false (sym e))
+ends_sound (Some w) n i e =
+    let parts = both (eqb w.node n) (eqb w.item i) e in
+    (w.joined, rw (← eqb-true w.node n parts.0, ← eqb-true w.item i parts.1))
 
 -- the nodes: none, or those of the root's subtree
 root_sound : (m : Mesh) (t : Tree) (b : Bool) → eqb (triangle_count m) 0 ≡ b → cond b (eqb (node_count t) 0) (ends_at (walk m t 32 0 0) (node_count t) (triangle_count m)) ≡ true → ((triangle_count m ≡ 0) × (node_count t ≡ 0)) ⊎ ((0 < triangle_count m) × Subtree m t 32 0 0 (node_count t) (triangle_count m))

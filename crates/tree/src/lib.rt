@@ -2,27 +2,61 @@
 #![tactic(auto)]
 
 ghost use Rattle.std.specs.Prelude.{◌≡◌, ◌+◌, ◌*◌, ◌<◌, length};
-ghost use Rattle.tree.specs.Tree as Tree;
+ghost use Rattle.tree.specs.Tree as Trees;
 
 use math::{BoundingBox, Vec3};
+use mesh::AcceptedMesh;
+use std::marker::Model;
 
-// What the walk over a subtree finds.
+// What the walk over a subtree finds if the subtree keeps the rules: the node and the item place behind it, and the join
+// of the own boxes below it.
 #[derive(Clone, Copy)]
-pub enum Walked {
-    // The tree does not keep the rules.
-    Fault,
-    // The node and the item place behind the subtree, and the join of the own boxes below it.
-    Ends {
-        node: usize,
-        item: usize,
-        joined: BoundingBox,
-    },
+pub struct Walked {
+    pub node: usize,
+    pub item: usize,
+    pub joined: BoundingBox,
+}
+
+// A lent tree, whatever numbers it has: six floats a node, two numbers a node, and the triangle numbers.
+#[derive(Drop)]
+pub struct Tree<'a> {
+    pub boxes: &'a [f64],
+    pub nodes: &'a [u32],
+    pub items: &'a [u32],
+}
+
+impl<'a> Model for Tree<'a> {
+    ghost Value = { Trees.Tree };
+
+    ghost view = { λ t. Trees.tree t.boxes.now t.nodes.now t.items.now };
+}
+
+// An accepted mesh, and a tree that keeps the tree rules for it.
+#[derive(Drop)]
+pub struct AcceptedTree<'a> {
+    pub mesh: AcceptedMesh<'a>,
+    pub boxes: &'a [f64],
+    pub nodes: &'a [u32],
+    pub items: &'a [u32],
+}
+
+impl<'a> Model for AcceptedTree<'a> {
+    ghost use Rattle.mesh_questions.specs.Accepted.{Accepted};
+    ghost use Rattle.tree.specs.Tree.{tree};
+    ghost use Rattle.tree.specs.TreeRules.{AcceptedTree, TreeRules};
+
+    ghost Value = { AcceptedTree };
+
+    ghost view = { λ t. record { mesh = t.mesh; tree = tree t.boxes.now t.nodes.now t.items.now } };
+
+    ghost invariant = { λ t. Accepted t.mesh.coords t.mesh.corners t.mesh.ends × TreeRules t.mesh (tree t.boxes.now t.nodes.now t.items.now) };
 }
 
 // The box of node `n`.
+#[tactic(auto, unfolding(crate::specs::Tree::box_at))]
 pub fn node_box(boxes: &[f64], n: usize) -> BoundingBox
     requires { 6 * n + 5 < length boxes.now }
-    ensures { result ≡ Tree.box_at boxes.now n }
+    ensures { result ≡ Trees.box_at boxes.now n }
 {
     BoundingBox {
         min: Vec3::at(boxes, 6 * n),
