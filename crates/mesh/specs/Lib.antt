@@ -5,6 +5,7 @@ pub mod Fans
 pub mod TriangleLaws
 pub mod Boxes
 pub mod Mesh
+pub mod MeshLaws
 pub mod Places
 pub mod Centers
 pub mod Corners

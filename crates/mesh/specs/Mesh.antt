@@ -2,6 +2,7 @@
 use Rattle.std.specs.Prelude.{ℕ, zero, suc, ◌+◌, List, [], ◌∷◌, length, get_or}
 pub use Rattle.mesh_questions.specs.Mesh.{Mesh, mesh}
 use Rattle.math.specs.declared.BoundingBox.{BoundingBox}
+use Rattle.math.specs.Boxes.{empty, join}
 use Rattle.mesh.specs.declared.Triangle.{Triangle}
 use Rattle.mesh.specs.Triangles.{triangle, triangles}
 use Rattle.mesh.specs.Boxes.{triangle_box}
@@ -17,6 +18,16 @@ triangle_at m t = get_or (triangles m.corners m.ends) t (triangle 0 0 0)
 -- the own box of triangle t
 unfoldable pub own_box : Mesh → ℕ → BoundingBox
 own_box m t = triangle_box m.coords (triangle_at m t)
+
+-- a box joined with the own boxes of triangles in their order
+unfoldable pub join_all : Mesh → BoundingBox → List ℕ → BoundingBox
+join_all m b [] = b
+join_all m b (t ∷ rest) = join_all m (join b (own_box m t)) rest
+
+-- the own boxes of triangles joined in their order, starting with the first one's
+unfoldable pub node_box : Mesh → List ℕ → BoundingBox
+node_box m [] = empty
+node_box m (t ∷ rest) = join_all m (own_box m t) rest
 
 -- n numbers from `first` on
 unfoldable pub numbers : ℕ → ℕ → List ℕ

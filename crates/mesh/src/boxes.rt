@@ -6,6 +6,7 @@ ghost use Rattle.math.specs.Vectors.{component};
 ghost use Rattle.mesh.specs.Axes as Axes;
 ghost use Rattle.mesh.specs.Boxes as Boxes;
 ghost use Rattle.mesh.specs.Centers as Centers;
+ghost use Rattle.mesh.specs.Items as Items;
 ghost use Rattle.mesh.specs.Mesh as Mesh;
 
 use crate::{AcceptedMesh, Axis, Triangle};
@@ -110,6 +111,19 @@ impl<'a> AcceptedMesh<'a> {
     {
         let triangle = self.triangle(t as usize);
         finite_box(self.coords, triangle)
+    }
+
+    // The own boxes of some triangles joined in their order, starting with the first one's.
+    pub fn joined_boxes(&self, items: &[u32]) -> BoundingBox
+        requires items { Items.Items self.now items.now }
+        requires some { 0 < length items.now }
+        ensures { result ≡ Mesh.node_box self.now items.now }
+    {
+        let mut b = self.own_box(items[0]);
+        for t in &items[1..] {
+            b = b.join(self.own_box(*t));
+        }
+        b
     }
 }
 

@@ -1,9 +1,9 @@
 -- The test that computes the tree rules. A node's box is compared with the join of the own boxes below it. Definitions, and the
 -- laws that the code's walk uses; specs/TreeTheorem.antt says that the test and the rules agree.
 use Prim.Native.Nat.{ℕ, zero, suc, ◌+◌, ◌-◌, ◌*◌, ◌≤◌, ◌<◌}
-use Rattle.std.specs.Prelude.{Option, Some, None, Bool, false, cond, ◌&&◌, ◌≡◌, refl, eqb, leb, ltb, length}
+use Rattle.std.specs.Prelude.{Option, Some, None, Bool, false, cond, ◌&&◌, ◌≡◌, refl, eqb, leb, ltb, length, get_or, take, drop}
 use native.Mathlib.Omega.{arith}
-use Rattle.std.proofs.Common.{◌∙◌}
+use Rattle.std.proofs.Common.{◌∙◌, add-one, drop-cons}
 use borrow.Author.Tests.{eq-eqb, ne_eqb, lt-ltb, le-ltb}
 use Rattle.items.specs.Counting.{once_below}
 use Rattle.math.specs.declared.BoundingBox.{BoundingBox}
@@ -12,7 +12,7 @@ use Rattle.mesh.specs.Fans.{length_fans}
 use Rattle.mesh_questions.specs.Faces.{faces}
 use Rattle.mesh.specs.Items.{Items}
 use Rattle.mesh.specs.Triangles as Triangles
-use Rattle.mesh.specs.Mesh.{Mesh, triangle_count, own_box}
+use Rattle.mesh.specs.Mesh.{Mesh, triangle_count, own_box, join_all, node_box}
 use Rattle.math.specs.Boxes.{encloses, join}
 use Rattle.tree.specs.declared.Walked.{Walked}
 use Rattle.tree.specs.Tree.{Tree, node_count, box_of, start_of, count_of, item_at}
@@ -98,12 +98,21 @@ pub triangle_count_accepted : (m : Mesh) → Accepted m.coords m.corners m.ends 
 unfolding triangle_count Triangles.triangles faces
 triangle_count_accepted m a = omega (arith, length_fans 0 m.corners m.ends a.lengths.fit a.wide)
 
--- from place k on: the own box there is joined, and then the rest
-pub join_from_next : (m : Mesh) (t : Tree) (b : BoundingBox) (k end : ℕ) → k < end → join_from m t b k (end - k) ≡ join_from m t (join b (own_box m (item_at t k))) (k + 1) (end - (k + 1))
-unfolding join_from
-join_from_next m t b k end h =
-    let more : end - k ≡ suc (end - (k + 1)) = omega arith in
-    rw more
+-- the join of item places is that of the triangles there
+joined_from : (m : Mesh) (t : Tree) (b : BoundingBox) (i places : ℕ) → i + places ≤ length t.items → join_from m t b i places ≡ join_all m b (take places (drop i t.items))
+unfolding join_from join_all item_at
+joined_from m t b i zero h = refl
+joined_from m t b i (suc places) h =
+    let next = joined_from m t (join b (own_box m (get_or t.items i 0))) (i + 1) places (omega arith) in
+    rw (drop-cons t.items i 0 (omega arith), ← add-one i) next
+
+pub joined_items : (m : Mesh) (t : Tree) (i places : ℕ) → 0 < places → i + places ≤ length t.items → join_items m t i places ≡ node_box m (take places (drop i t.items))
+unfolding join_items node_box item_at
+joined_items m t i zero some h = absurd (omega arith)
+joined_items m t i (suc places) some h =
+    let fewer : suc places - 1 ≡ places = omega arith in
+    let next = joined_from m t (own_box m (get_or t.items i 0)) (i + 1) places (omega arith) in
+    rw (fewer, drop-cons t.items i 0 (omega arith), ← add-one i) next
 
 -- a node that the tree does not have
 pub walk_out : (m : Mesh) (t : Tree) (depth n i : ℕ) → node_count t ≤ n → walk m t depth n i ≡ None

@@ -1,15 +1,16 @@
 -- The tree check (document 01, 'Answers, and the questions asked first'): questions 1 to 7, and what is left in the work places.
 -- Definitions, and the theorem that the check accepts exactly the trees that keep the tree rules.
-use Rattle.std.specs.Prelude.{ℕ, ◌≤◌, ◌≡◌, Bool, List, leb, length, drop, replicate}
+use Rattle.std.specs.Prelude.{ℕ, ◌≤◌, ◌≡◌, Bool, List, Result, leb, length, drop, replicate}
 use Rattle.std.proofs.Common.{leb-true}
 use Rattle.lent.specs.Over.{over}
+use Rattle.refusal.specs.declared.Refusal.{Refusal}
 use Rattle.refusal.specs.declared.Refusal.TheVariants as Refusals
-use Rattle.refusal.specs.Verdicts.{Passed, Verdict, ask, then, written, ask_passed, then_passed}
+use Rattle.refusal.specs.Verdicts.{Passed, Verdict, ask, then, answered, written, ask_passed, then_passed}
 use Rattle.mesh_questions.specs.Questions.{ask_mesh}
 use Rattle.mesh_questions.specs.Accepted.{Accepted, accepted}
 use Rattle.mesh.specs.Mesh.{Mesh}
 use Rattle.tree.specs.Tree.{Tree}
-use Rattle.tree.specs.TreeRules.{TreeRules}
+use Rattle.tree.specs.TreeRules.{TreeRules, AcceptedTree}
 use Rattle.tree.specs.TreeTest.{tree_test}
 use Rattle.tree.specs.TreeTheorem.{sound, complete}
 
@@ -34,6 +35,11 @@ pub record Keeps (m : Mesh) (t : Tree) (work₀ : List ℕ) (result : Bool) (wor
 pub record AsksTree (m : Mesh) (t : Tree) (work₀ : List ℕ) (result : Verdict) (work₁ : List ℕ) : Type 0 where
   pub answer : result ≡ ask_tree m t
   pub work : work₁ ≡ over (replicate (length m.corners) 0) work₀
+
+-- what `accept_tree` promises: questions 1 to 7, the mesh with the tree if they pass, and of the work places the same unless 1 to 6 refuse
+pub record Accepts (m : Mesh) (t : Tree) (work₀ : List ℕ) (result : Result AcceptedTree Refusal) (work₁ : List ℕ) : Type 0 where
+  pub answer : result ≡ answered (check_answer m t (length work₀)) (record { mesh = m; tree = t })
+  pub work : work₁ ≡ over (written (ask_room m (length work₀)) (replicate (length m.corners) 0)) work₀
 
 -- what `check_tree` promises: questions 1 to 7, and of the work places the same unless 1 to 6 refuse
 pub record Checks (m : Mesh) (t : Tree) (work₀ : List ℕ) (result : Verdict) (work₁ : List ℕ) : Type 0 where

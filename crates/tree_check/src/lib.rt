@@ -3,288 +3,178 @@
 #![tactic(auto)]
 
 ghost use Rattle.std.specs.Prelude.{◌≡◌, ◌&&◌, ◌+◌, ◌-◌, ◌*◌, ◌/◌, ◌≤◌, ◌<◌, eqb, length};
-ghost use Rattle.mesh_questions.specs.Accepted.{Accepted};
-ghost use Rattle.mesh.specs.Triangles as Triangles;
-ghost use Rattle.mesh.specs.Mesh as Mesh;
-ghost use Rattle.tree.specs.Tree as Tree;
+ghost use Rattle.refusal.specs.Verdicts.{answered};
+ghost use Rattle.tree.specs.Tree as Trees;
 ghost use Rattle.tree.specs.TreeTest as TreeTest;
 ghost use Rattle.tree_check.specs.Check as Check;
 
 use items::items_once;
 use math::BoundingBox;
-use mesh::boxes::own_box;
-use mesh_questions::Asked;
-use refusal::{Refusal, Verdict};
-use tree::{Walked, node_box};
+use mesh::AcceptedMesh;
+use mesh_questions::Mesh;
+use refusal::Refusal;
+use tree::{AcceptedTree, Tree, Walked, node_box};
 
-// The join of the own boxes of `places` items from place `i` on.
-fn join_items(
-    coords: &[f64],
-    corners: &[u32],
-    ends: &[u32],
-    sides: usize,
-    boxes: &[f64],
-    nodes: &[u32],
-    items: &[u32],
-    i: usize,
-    places: usize,
-) -> BoundingBox
-    requires { TreeTest.Lent (Mesh.mesh coords.now corners.now ends.now) sides (Tree.tree boxes.now nodes.now items.now) × (0 < places) × (i + places ≤ length items.now) }
-    ensures { result ≡ TreeTest.join_items (Mesh.mesh coords.now corners.now ends.now) (Tree.tree boxes.now nodes.now items.now) i places }
+// What the walk found, if the box of the node encloses what lies below it.
+#[tactic(auto, unfolding(tree::specs::TreeTest::boxed_by))]
+fn boxed(b: BoundingBox, walked: Walked) -> Option<Walked>
+    ensures { result ≡ TreeTest.boxed_by b (Some walked) }
 {
-    let mut b = own_box(coords, corners, ends, sides, items[i]);
-    let end = i + places;
-    let mut k = i + 1;
-    while k < end {
-        b = b.join(own_box(coords, corners, ends, sides, items[k]));
-        k += 1;
-    }
-    b
-}
-
-// What the walk found if the box of the node encloses what lies below it.
-fn boxed(b: BoundingBox, walked: Walked) -> Walked
-    ensures { result ≡ TreeTest.boxed_by b walked }
-{
-    match walked {
-        Walked::Fault => Walked::Fault,
-        Walked::Ends { node, item, joined } => {
-            if b.encloses(joined) {
-                Walked::Ends {
-                    node: node,
-                    item: item,
-                    joined: joined,
-                }
-            } else {
-                Walked::Fault
-            }
-        }
-    }
-}
-
-// What the walk found at the right child, with what lies below the left one joined to it.
-fn with_left(left: BoundingBox, walked: Walked) -> Walked
-    ensures { result ≡ TreeTest.with_left left walked }
-{
-    match walked {
-        Walked::Fault => Walked::Fault,
-        Walked::Ends { node, item, joined } => Walked::Ends {
-            node: node,
-            item: item,
-            joined: left.join(joined),
-        },
+    if b.encloses(walked.joined) {
+        Some(walked)
+    } else {
+        None
     }
 }
 
 // The walk at a leaf: it has at most four items, they begin at place `i` and are in the list.
-fn check_leaf(
-    coords: &[f64],
-    corners: &[u32],
-    ends: &[u32],
-    sides: usize,
-    boxes: &[f64],
-    nodes: &[u32],
-    items: &[u32],
-    n: usize,
-    i: usize,
-) -> Walked
-    requires { TreeTest.Lent (Mesh.mesh coords.now corners.now ends.now) sides (Tree.tree boxes.now nodes.now items.now) × (n < length nodes.now / 2) × (0 < Tree.count_of (Tree.tree boxes.now nodes.now items.now) n) }
-    ensures { result ≡ TreeTest.leaf_walk (Mesh.mesh coords.now corners.now ends.now) (Tree.tree boxes.now nodes.now items.now) n i }
+fn check_leaf(mesh: &AcceptedMesh, tree: &Tree, n: usize, i: usize) -> Option<Walked>
+    requires lent { TreeTest.Lent mesh.now tree.now }
+    requires node { n < length tree.now.nodes / 2 }
+    requires leaf { 0 < Trees.count_of tree.now n }
+    ensures { result ≡ TreeTest.leaf_walk mesh.now tree.now n i }
 {
+    let nodes = tree.nodes;
+    let items = tree.items;
     let start = nodes[2 * n] as usize;
     let count = nodes[2 * n + 1] as usize;
     if count > 4 {
-        return Walked::Fault;
+        return None;
     }
     if start != i {
-        return Walked::Fault;
+        return None;
     }
     if i + count > items.len() {
-        return Walked::Fault;
+        return None;
     }
-    let joined = join_items(coords, corners, ends, sides, boxes, nodes, items, i, count);
     boxed(
-        node_box(boxes, n),
-        Walked::Ends {
+        node_box(tree.boxes, n),
+        Walked {
             node: n + 1,
             item: i + count,
-            joined: joined,
+            joined: mesh.joined_boxes(&items[i..i + count]),
         },
     )
 }
 
 // The walk over the subtree of node `n`, whose items begin at place `i`, with at most `depth` nodes on a
 // path.
-fn check_node(
-    coords: &[f64],
-    corners: &[u32],
-    ends: &[u32],
-    sides: usize,
-    boxes: &[f64],
-    nodes: &[u32],
-    items: &[u32],
-    depth: usize,
-    n: usize,
-    i: usize,
-) -> Walked
-    requires { TreeTest.Lent (Mesh.mesh coords.now corners.now ends.now) sides (Tree.tree boxes.now nodes.now items.now) × (depth ≤ 32) }
-    ensures { result ≡ TreeTest.walk (Mesh.mesh coords.now corners.now ends.now) (Tree.tree boxes.now nodes.now items.now) depth n i }
+fn check_node(mesh: &AcceptedMesh, tree: &Tree, depth: usize, n: usize, i: usize) -> Option<Walked>
+    requires lent { TreeTest.Lent mesh.now tree.now }
+    requires depth_bound { depth ≤ 32 }
+    ensures { result ≡ TreeTest.walk mesh.now tree.now depth n i }
 {
+    let nodes = tree.nodes;
     if depth == 0 {
-        return Walked::Fault;
+        return None;
     }
     if n >= nodes.len() / 2 {
-        return Walked::Fault;
+        return None;
     }
     let start = nodes[2 * n] as usize;
     if nodes[2 * n + 1] > 0 {
-        return check_leaf(coords, corners, ends, sides, boxes, nodes, items, n, i);
+        return check_leaf(mesh, tree, n, i);
     }
-    let left = check_node(
-        coords,
-        corners,
-        ends,
-        sides,
-        boxes,
-        nodes,
-        items,
-        depth - 1,
-        n + 1,
-        i,
-    );
-    match left {
-        Walked::Fault => Walked::Fault,
-        Walked::Ends { node, item, joined } => {
-            if node != start {
-                return Walked::Fault;
-            }
-            let right = check_node(
-                coords,
-                corners,
-                ends,
-                sides,
-                boxes,
-                nodes,
-                items,
-                depth - 1,
-                start,
-                item,
-            );
-            boxed(node_box(boxes, n), with_left(joined, right))
-        }
+    let left = check_node(mesh, tree, depth - 1, n + 1, i)?;
+    if left.node != start {
+        return None;
     }
+    let right = check_node(mesh, tree, depth - 1, start, left.item)?;
+    boxed(
+        node_box(tree.boxes, n),
+        Walked {
+            node: right.node,
+            item: right.item,
+            joined: left.joined.join(right.joined),
+        },
+    )
 }
 
 // Whether the list of boxes has six floats a node, and the list of node numbers two.
-fn lengths_fit(boxes: &[f64], nodes: &[u32]) -> bool
-    ensures { result ≡ (eqb (length boxes.now) (6 * (length nodes.now / 2)) && eqb (length nodes.now) (2 * (length nodes.now / 2))) }
+fn lengths_fit(tree: &Tree) -> bool
+    ensures { result ≡ (eqb (length tree.now.boxes) (6 * (length tree.now.nodes / 2)) && eqb (length tree.now.nodes) (2 * (length tree.now.nodes / 2))) }
 {
-    let n = nodes.len() / 2;
-    (boxes.len() == 6 * n) & (nodes.len() == 2 * n)
+    let n = tree.nodes.len() / 2;
+    (tree.boxes.len() == 6 * n) & (tree.nodes.len() == 2 * n)
 }
 
 // Whether there are no nodes, if there are no triangles, or else the root's subtree has all nodes and all
 // item places.
-fn root_fits(
-    coords: &[f64],
-    corners: &[u32],
-    ends: &[u32],
-    boxes: &[f64],
-    nodes: &[u32],
-    items: &[u32],
-) -> bool
-    requires { TreeTest.Lent (Mesh.mesh coords.now corners.now ends.now) (Triangles.sides ends.now) (Tree.tree boxes.now nodes.now items.now) }
-    ensures { result ≡ TreeTest.root_test (Mesh.mesh coords.now corners.now ends.now) (Tree.tree boxes.now nodes.now items.now) }
+fn root_fits(mesh: &AcceptedMesh, tree: &Tree) -> bool
+    requires { TreeTest.Lent mesh.now tree.now }
+    ensures { result ≡ TreeTest.root_test mesh.now tree.now }
 {
-    let triangles = corners.len() - 2 * ends.len();
-    let n = nodes.len() / 2;
+    let triangles = mesh.triangle_count();
+    let n = tree.nodes.len() / 2;
     if triangles == 0 {
         return n == 0;
     }
-    let sides = mesh::triangles::sides(ends);
-    let walked = check_node(coords, corners, ends, sides, boxes, nodes, items, 32, 0, 0);
-    match walked {
-        Walked::Fault => false,
-        Walked::Ends { node, item, joined } => (node == n) & (item == triangles),
+    match check_node(mesh, tree, 32, 0, 0) {
+        Some(walked) => (walked.node == n) & (walked.item == triangles),
+        None => false,
     }
 }
 
 // Whether the tree keeps the rules. Work places are used for counting the items.
-fn keeps_rules(
-    coords: &[f64],
-    corners: &[u32],
-    ends: &[u32],
-    boxes: &[f64],
-    nodes: &[u32],
-    items: &[u32],
-    work: &mut [u64],
-) -> bool
-    requires { Accepted coords.now corners.now ends.now × (length corners.now ≤ length work.old) }
-    ensures { Check.Keeps (Mesh.mesh coords.now corners.now ends.now) (Tree.tree boxes.now nodes.now items.now) work.old result work.new }
+fn keeps_rules(mesh: &AcceptedMesh, tree: &Tree, work: &mut [u64]) -> bool
+    requires { length mesh.now.corners ≤ length work.old }
+    ensures { Check.Keeps mesh.now tree.now work.old result work.new }
 {
-    if !lengths_fit(boxes, nodes) {
+    let triangles = mesh.triangle_count();
+    if !lengths_fit(tree) {
         return false;
     }
-    if !items_once(items, corners.len() - 2 * ends.len(), work) {
+    if !items_once(tree.items, triangles, work) {
         return false;
     }
-    root_fits(coords, corners, ends, boxes, nodes, items)
+    root_fits(mesh, tree)
 }
 
 // Questions 1 to 6: a mesh, and a work place for each corner.
-pub fn ask_room(coords: &[f64], corners: &[u32], ends: &[u32], work: usize) -> Verdict
-    ensures { result ≡ Check.ask_room (Mesh.mesh coords.now corners.now ends.now) work }
+#[tactic(auto, unfolding(crate::specs::Check::ask_room))]
+pub fn ask_room<'a>(mesh: &Mesh<'a>, work: usize) -> Result<AcceptedMesh<'a>, Refusal>
+    ensures { result ≡ answered (Check.ask_room mesh.now work) mesh.now }
 {
-    let asked = mesh_questions::ask_mesh(coords, corners, ends);
-    match asked {
-        Asked::Refused(refusal) => Verdict::Refused(refusal),
-        Asked::Accepted(_) => {
-            if corners.len() <= work {
-                Verdict::Passed
-            } else {
-                Verdict::Refused(Refusal::Room)
-            }
-        }
+    let accepted = AcceptedMesh::accept(mesh)?;
+    if accepted.corners.len() <= work {
+        Ok(accepted)
+    } else {
+        Err(Refusal::Room)
     }
 }
 
 // Question 7, of a mesh that passes 1 to 6. The work places that it needs hold 0 then.
-pub fn ask_tree(
-    coords: &[f64],
-    corners: &[u32],
-    ends: &[u32],
-    boxes: &[f64],
-    nodes: &[u32],
-    items: &[u32],
-    work: &mut [u64],
-) -> Verdict
-    requires { Accepted coords.now corners.now ends.now × (length corners.now ≤ length work.old) }
-    ensures { Check.AsksTree (Mesh.mesh coords.now corners.now ends.now) (Tree.tree boxes.now nodes.now items.now) work.old result work.new }
+fn ask_tree(mesh: &AcceptedMesh, tree: &Tree, work: &mut [u64]) -> Result<(), Refusal>
+    requires { length mesh.now.corners ≤ length work.old }
+    ensures { Check.AsksTree mesh.now tree.now work.old result work.new }
 {
-    let kept = keeps_rules(coords, corners, ends, boxes, nodes, items, work);
-    lent::clear(work, corners.len());
-    if kept {
-        Verdict::Passed
-    } else {
-        Verdict::Refused(Refusal::Tree)
-    }
+    let kept = keeps_rules(mesh, tree, work);
+    lent::clear(work, mesh.corners.len());
+    if kept { Ok(()) } else { Err(Refusal::Tree) }
+}
+
+// Questions 1 to 7: the mesh with a tree that keeps the rules for it, or the refusal.
+pub fn accept_tree<'a>(
+    mesh: &Mesh<'a>,
+    tree: &Tree<'a>,
+    work: &mut [u64],
+) -> Result<AcceptedTree<'a>, Refusal>
+    ensures { Check.Accepts mesh.now tree.now work.old result work.new }
+{
+    let accepted = ask_room(mesh, work.len())?;
+    ask_tree(&accepted, tree, work)?;
+    Ok(AcceptedTree {
+        mesh: accepted,
+        boxes: tree.boxes,
+        nodes: tree.nodes,
+        items: tree.items,
+    })
 }
 
 // The tree check: questions 1 to 7.
-pub fn check_tree(
-    coords: &[f64],
-    corners: &[u32],
-    ends: &[u32],
-    boxes: &[f64],
-    nodes: &[u32],
-    items: &[u32],
-    work: &mut [u64],
-) -> Verdict
-    ensures { Check.Checks (Mesh.mesh coords.now corners.now ends.now) (Tree.tree boxes.now nodes.now items.now) work.old result work.new }
+pub fn check_tree(mesh: &Mesh, tree: &Tree, work: &mut [u64]) -> Result<(), Refusal>
+    ensures { Check.Checks mesh.now tree.now work.old result work.new }
 {
-    let asked = ask_room(coords, corners, ends, work.len());
-    match asked {
-        Verdict::Refused(refusal) => Verdict::Refused(refusal),
-        Verdict::Passed => ask_tree(coords, corners, ends, boxes, nodes, items, work),
-    }
+    accept_tree(mesh, tree, work)?;
+    Ok(())
 }

@@ -1,7 +1,7 @@
 -- `ask_tree` meets its contract: `keeps_rules` says whether the tree keeps the rules, and what it left in the places that are needed is cleared
 -- (`answered`).
 use Prim.Native.Nat.{ℕ}
-use mathlib.Core.Path.{◌≡◌, ◌∙◌}
+use mathlib.Core.Path.{◌≡◌, ap, ◌∙◌}
 use mathlib.Core.Bool.{Bool, true, false}
 use mathlib.Core.List.{List}
 use lib.ListN.{length, replicate, length-replicate}
@@ -24,7 +24,7 @@ answered m t work₀ counted work result kept same keeps cleared =
     }
 
 pub returns-then-kept : goal.returns-then-kept
-returns-then-kept c = answered _ _ _ _ _ _ true c.if-kept.true c.keeps_rules-kept.ensures c.clear.ensures
+returns-then-kept c = answered _ _ _ _ _ _ true c.if-kept.true c.keeps_rules-kept.ensures (rw (ap (λ (m : Mesh). length m.corners) c.mesh.view_is) at c.clear.ensures)
 
 pub returns-else-kept : goal.returns-else-kept
-returns-else-kept c = answered _ _ _ _ _ _ false c.if-kept.false c.keeps_rules-kept.ensures c.clear.ensures
+returns-else-kept c = answered _ _ _ _ _ _ false c.if-kept.false c.keeps_rules-kept.ensures (rw (ap (λ (m : Mesh). length m.corners) c.mesh.view_is) at c.clear.ensures)

@@ -2,7 +2,7 @@
 -- mesh (`once_below_lem`), which is what the walk asks for.
 use native.Mathlib.Omega.{arith}
 use Prim.Native.Nat.{ℕ, ◌+◌, ◌-◌, ◌*◌, ◌≤◌}
-use mathlib.Core.Path.{◌≡◌, refl, sym, ◌∙◌}
+use mathlib.Core.Path.{◌≡◌, refl, sym, ap, ◌∙◌}
 use mathlib.Core.Bool.{Bool, true, false, ◌&&◌, and_assoc}
 use mathlib.Core.List.{List}
 use lib.Dec.{eqb}
@@ -13,9 +13,8 @@ use Rattle.refusal.specs.Verdicts.{both}
 use Rattle.items.specs.Once.{once_below_lem}
 use Rattle.items.specs.Counting.{once_below, CountsOnce}
 use Rattle.mesh_questions.specs.Accepted.{Accepted}
-use Rattle.mesh.specs.Triangles.{sides}
-use Rattle.mesh.specs.Mesh.{Mesh, mesh, triangle_count}
-use Rattle.tree.specs.Tree.{Tree, tree, node_count, item_at}
+use Rattle.mesh.specs.Mesh.{Mesh, triangle_count}
+use Rattle.tree.specs.Tree.{Tree, node_count}
 use Rattle.tree.specs.TreeTest.{Lent, root_test, tree_test, triangle_count_accepted}
 use Rattle.tree.specs.TreeTheorem.{once_sound}
 use Rattle.tree_check.proofs.keeps_rules.Goals as goal
@@ -43,14 +42,11 @@ module _ (m : Mesh) (t : Tree) (accepted : Accepted m.coords m.corners m.ends) w
   unfolding tree_test
   tested = rw (all, and_assoc fit)
 
-  lent : fit ≡ true → once ≡ true → Lent m (sides m.ends) t
-  unfolding item_at
+  lent : fit ≡ true → once ≡ true → Lent m t
   lent f o =
       let lengths = both (eqb (length t.boxes) (6 * node_count t)) _ f in
       let counts = both (eqb (length t.items) (length m.corners - 2 * length m.ends)) _ o in
       record {
-        accepted = accepted;
-        sides = refl;
         boxes = eqb-true _ _ lengths.0;
         nodes = eqb-true _ _ lengths.1;
         items = once_below_lem _ t.items (eqb-true _ _ counts.0) (once_sound _ t.items counts.1);
@@ -63,44 +59,37 @@ module _ (m : Mesh) (t : Tree) (accepted : Accepted m.coords m.corners m.ends) w
 pub returns-then-not-lengths_fit : goal.returns-then-not-lengths_fit
 unfolding node_count
 returns-then-not-lengths_fit c =
-    let a = c.args in
-    let m = mesh a.coords.now a.corners.now a.ends.now in
-    let t = tree a.boxes.now a.nodes.now a.items.now in
-    let accepted = c.requires.0 in
+    let m = c.args.mesh.now in
+    let t = c.args.tree.now in
+    let accepted = c.triangle_count-triangles.ensures.accepted in
     let no : fit m t accepted ≡ false = sym c.lengths_fit.ensures ∙ c.if-not-lengths_fit.true in
     record { answer = rw (tested m t accepted, no); rest = refl }
-
-pub overflow_sub-corners : goal.overflow_sub-corners
-overflow_sub-corners c =
-    let a = c.args in
-    omega (arith, triangle_count_accepted (mesh a.coords.now a.corners.now a.ends.now) c.requires.0)
 
 pub returns-then-not-items_once : goal.returns-then-not-items_once
 unfolding node_count
 returns-then-not-items_once c =
-    let a = c.args in
-    let m = mesh a.coords.now a.corners.now a.ends.now in
-    let t = tree a.boxes.now a.nodes.now a.items.now in
-    let accepted = c.requires.0 in
+    let m = c.args.mesh.now in
+    let t = c.args.tree.now in
+    let accepted = c.triangle_count-triangles.ensures.accepted in
+    let counted = rw (c.triangle_count-triangles.ensures.count, ap (λ (t : Tree). t.items) c.tree.view_is) at c.items_once.ensures in
     let yes : fit m t accepted ≡ true = sym c.lengths_fit.ensures ∙ c.if-not-lengths_fit.false in
-    let no : once m t accepted ≡ false = sym c.items_once.ensures.answer ∙ c.if-not-items_once.true in
-    record { answer = rw (tested m t accepted, yes, no); rest = rest m t accepted _ _ _ c.items_once.ensures }
+    let no : once m t accepted ≡ false = sym counted.answer ∙ c.if-not-items_once.true in
+    record { answer = rw (tested m t accepted, yes, no); rest = rest m t accepted _ _ _ counted }
 
 pub root_fits-requires : goal.root_fits-requires
 unfolding node_count
 root_fits-requires c =
-    let a = c.args in
-    let m = mesh a.coords.now a.corners.now a.ends.now in
-    let t = tree a.boxes.now a.nodes.now a.items.now in
-    lent m t c.requires.0 (sym c.lengths_fit.ensures ∙ c.if-not-lengths_fit.false) (sym c.items_once.ensures.answer ∙ c.if-not-items_once.false)
+    let accepted = c.triangle_count-triangles.ensures.accepted in
+    let counted = rw (c.triangle_count-triangles.ensures.count, ap (λ (t : Tree). t.items) c.tree.view_is) at c.items_once.ensures in
+    lent c.args.mesh.now c.args.tree.now accepted (sym c.lengths_fit.ensures ∙ c.if-not-lengths_fit.false) (sym counted.answer ∙ c.if-not-items_once.false)
 
 pub returns : goal.returns
 unfolding node_count
 returns c =
-    let a = c.args in
-    let m = mesh a.coords.now a.corners.now a.ends.now in
-    let t = tree a.boxes.now a.nodes.now a.items.now in
-    let accepted = c.requires.0 in
+    let m = c.args.mesh.now in
+    let t = c.args.tree.now in
+    let accepted = c.triangle_count-triangles.ensures.accepted in
+    let counted = rw (c.triangle_count-triangles.ensures.count, ap (λ (t : Tree). t.items) c.tree.view_is) at c.items_once.ensures in
     let yes : fit m t accepted ≡ true = sym c.lengths_fit.ensures ∙ c.if-not-lengths_fit.false in
-    let too : once m t accepted ≡ true = sym c.items_once.ensures.answer ∙ c.if-not-items_once.false in
-    record { answer = rw (tested m t accepted, yes, too) c.root_fits.ensures; rest = rest m t accepted _ _ _ c.items_once.ensures }
+    let too : once m t accepted ≡ true = sym counted.answer ∙ c.if-not-items_once.false in
+    record { answer = rw (tested m t accepted, yes, too) c.root_fits.ensures; rest = rest m t accepted _ _ _ counted }
