@@ -17,15 +17,11 @@ use Rattle.walks.specs.Walks.{Ready}
 use Rattle.walks.specs.WalkTheorem.{subtree_grows}
 
 -- each item is the number of a triangle
-pub ready_items : {m : Mesh} {sides : ℕ} {t : Tree} → Ready m sides t → Items m sides t.items
+pub ready_items : {m : Mesh} {t : Tree} → Ready m t → Items m t.items
 unfolding triangle_count item_at
-ready_items {m} {sides} {t} r =
+ready_items {m} {t} r j h =
     let count = length_triangles m.coords m.corners m.ends r.accepted in
-    record {
-      accepted = r.accepted;
-      sides = r.sides;
-      below = λ j h. omega (arith, items_below m t r.rules j (omega (arith, r.rules.items)), count);
-    }
+    omega (arith, items_below m t r.rules j (omega (arith, r.rules.items)), count)
 
 -- the own box of a triangle is not empty
 pub own_some : {m : Mesh} → Accepted m.coords m.corners m.ends → (k : ℕ) → k < triangle_count m → is_empty (own_box m k) ≡ false
@@ -35,8 +31,8 @@ own_some {m} a k h =
     box_some m.coords (triangle_at m k) (triangle_finite m.coords m.corners m.ends a k (triangle 0 0 0) (omega arith))
 
 -- nor is the box of a node, which is around an own box
-pub node_some : {m : Mesh} {sides : ℕ} {t : Tree} → Ready m sides t → (depth n i n' i' : ℕ) → Subtree m t depth n i n' i' → i' ≤ triangle_count m → is_empty (box_of t n) ≡ false
-node_some {m} {sides} {t} r depth n i n' i' s all =
+pub node_some : {m : Mesh} {t : Tree} → Ready m t → (depth n i n' i' : ℕ) → Subtree m t depth n i n' i' → i' ≤ triangle_count m → is_empty (box_of t n) ≡ false
+node_some {m} {t} r depth n i n' i' s all =
     let grows = subtree_grows m t depth n i n' i' s in
     let here : i < i' = grows.2 in
     around_not_empty (box_of t n) (own_box m (item_at t i)) (around s i (omega arith) here) (own_some r.accepted (item_at t i) (items_below m t r.rules i (omega arith)))

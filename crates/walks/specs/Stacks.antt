@@ -6,18 +6,21 @@ use Rattle.std.specs.Prelude.{◌≡◌, Bool, true, false, cond, eqb, length, s
 use Rattle.std.proofs.Math.Path.{refl, ap}
 use Rattle.std.proofs.Math.Logic.{⊎_elim}
 use mathlib.Core.List.{List, [], ◌∷◌, ◌++◌, map, append-nil, append_assoc}
-use Rattle.std.proofs.Math.ListN.{get_or, replicate, length-replicate, get_or-replicate}
+use Rattle.std.proofs.Common.{length-drop, get_or-take, get_or-drop}
+use Rattle.std.proofs.lemmas.List.{length-take-le}
+use Rattle.std.proofs.Math.ListN.{get_or, take, drop, replicate, length-replicate, get_or-replicate}
 use Rattle.keys.specs.SortingTheorems.{by_test}
 use Rattle.math.specs.declared.BoundingBox.{BoundingBox}
 use Rattle.math.specs.Boxes.{is_empty}
+use Rattle.mesh.specs.Items.{Items}
 use Rattle.mesh.specs.Mesh.{Mesh, triangle_count}
 use Rattle.tree.specs.Tree.{Tree, node_count, box_of, start_of, count_of}
 use Rattle.tree.specs.TreeRules.{Subtree, leaf, inner, TreeRules}
 use Rattle.walks.specs.declared.nodes.Place.{Place}
 use Rattle.walks.specs.Walks.{node, item, items_from, visits, all_visits, reached, Ready}
-use Rattle.walks.specs.WalkLaws.{below, below_out, below_leaf, below_inner}
+use Rattle.walks.specs.WalkLaws.{items_from_part, below, below_out, below_leaf, below_inner}
 use Rattle.walks.specs.WalkTheorem.{subtree_grows}
-use Rattle.walks.specs.ReadyLaws.{node_some}
+use Rattle.walks.specs.ReadyLaws.{node_some, ready_items}
 
 -- ---- where a walk is
 
@@ -208,7 +211,7 @@ module _ (m : Mesh) (t : Tree) (passes : BoundingBox → Bool) where
       step_room : (k + 1 < 32) × (left < right) × (right < node_count t)
       step_room = (omega (arith, left_grows.0, half.deep), left_grows.1, omega (arith, right_grows.1, h.nodes, h.within.0))
 
-      step_some : {sides : ℕ} → Ready m sides t → (is_empty (box_of t left) ≡ false) × (is_empty (box_of t right) ≡ false)
+      step_some : Ready m t → (is_empty (box_of t left) ≡ false) × (is_empty (box_of t right) ≡ false)
       step_some ready = (
         node_some ready half.less left i right half.middle half.left (omega (arith, right_grows.2, h.items, h.within.1)),
         node_some ready half.less right half.middle h.node' h.item' half.right (omega (arith, h.items, h.within.1)),
@@ -300,7 +303,7 @@ module _ (m : Mesh) (t : Tree) (passes : BoundingBox → Bool) where
 -- what is known where a walk is at an inner node n, with so many subtrees still to be visited
 pub record Inner (m : Mesh) (t : Tree) (passes : BoundingBox → Bool) (s : List ℕ) (n height : ℕ) : Type 0 where
   pub room : (height < 32) × (n + 1 < start_of t n) × (start_of t n < node_count t)
-  pub boxes : (sides : ℕ) → Ready m sides t → (is_empty (box_of t (n + 1)) ≡ false) × (is_empty (box_of t (start_of t n)) ≡ false)
+  pub boxes : Ready m t → (is_empty (box_of t (n + 1)) ≡ false) × (is_empty (box_of t (start_of t n)) ≡ false)
   pub step : (enters follows : Bool) → passes (box_of t (n + 1)) ≡ enters → passes (box_of t (start_of t n)) ≡ follows
       → let at = place n height in
       let at' = advanced s at (n + 1) (start_of t n) enters follows in
@@ -338,7 +341,7 @@ module _ {m : Mesh} {t : Tree} {passes : BoundingBox → Bool} where
                 let room = step_room m t passes s k n first c count in
                 record {
                   room = (omega (arith, room.0), room.1, room.2);
-                  boxes = λ sides ready. step_some m t passes s k n first c count ready;
+                  boxes = λ ready. step_some m t passes s k n first c count ready;
                   step = step_inner m t passes s k n first c count w.long;
                 };
           }
@@ -349,6 +352,37 @@ module _ {m : Mesh} {t : Tree} {passes : BoundingBox → Bool} where
   pub onward_more : {s s' s'' : List ℕ} {at at' at'' : Place} → Onward m t passes s at s' at' → Onward m t passes s' at' s'' at'' → Onward m t passes s at s'' at''
   onward_more one two = record { walking = two.walking; same = two.same ∙ one.same; further = omega (arith, one.further, two.further) }
 
+-- what a walk finds at a leaf, a part of the tree's items: triangles of the mesh, one to four, with which what it still came to begins
+pub record Found (m : Mesh) (t : Tree) (passes : BoundingBox → Bool) (s : List ℕ) (at : Place) (s' : List ℕ) (at' : Place) (items : List ℕ) : Type 0 where
+  pub coming : pending t passes s at ≡ items ++ pending t passes s' (popped s' at')
+  pub triangles : Items m items
+  pub some : 0 < length items
+  pub few : length items ≤ 4
+
+module _ {m : Mesh} {t : Tree} {passes : BoundingBox → Bool} {s s' : List ℕ} {at at' : Place} (ready : Ready m t) (next : NextLeaf m t passes s at s' at') (on : 0 < at'.height) where
+  -- where the leaf's items lie
+  pub leaf_within : start_of t at'.node + count_of t at'.node ≤ length t.items
+  leaf_within = omega (arith, ready.rules.items, ((here next.onward.walking on).places (next.leaf on)).0)
+
+  pub leaf_found : (end : ℕ) → end ≡ count_of t at'.node → Found m t passes s at s' at' (take end (drop (start_of t at'.node) t.items))
+  leaf_found end same =
+      let start = start_of t at'.node in
+      let count = count_of t at'.node in
+      let h = here next.onward.walking on in
+      let some = next.leaf on in
+      let part = items_from_part t.items start count leaf_within in
+      let long : length (take count (drop start t.items)) ≡ count = length-take-le count (drop start t.items) (omega (arith, length-drop start t.items, leaf_within)) in
+      rw same (
+      record {
+        coming = sym next.onward.same ∙ h.leaf some ∙ ap (λ l. l ++ pending t passes s' (popped s' at')) part;
+        triangles = λ j less.
+            rw (get_or-take count (drop start t.items) j 0 (omega (arith, long)), get_or-drop start t.items j 0)
+            (ready_items ready (start + j) (omega (arith, long, leaf_within)));
+        some = omega (arith, long, some);
+        few = omega (arith, long, (h.places some).1);
+      }
+      )
+
 -- ---- the start
 
 module _ (m : Mesh) (t : Tree) (rules : TreeRules m t) (some : 2 ≤ length t.nodes) where
@@ -356,7 +390,7 @@ module _ (m : Mesh) (t : Tree) (rules : TreeRules m t) (some : 2 ≤ length t.no
   unfolding node_count
   root = ⊎_elim (λ h. absurd (omega (arith, h.1))) (λ h. h.1) rules.tree
 
-  pub root_some : {sides : ℕ} → Ready m sides t → is_empty (box_of t 0) ≡ false
+  pub root_some : Ready m t → is_empty (box_of t 0) ≡ false
   root_some ready = node_some ready 32 0 0 (node_count t) (triangle_count m) root (le_refl (triangle_count m))
 
   -- a walk starts at the root, if its box passes
@@ -370,6 +404,10 @@ module _ (m : Mesh) (t : Tree) (rules : TreeRules m t) (some : 2 ≤ length t.no
         first = 0;
         chain = more {k = 0} {n' = node_count t} {i' = triangle_count m} p root (rw bottom (le_refl (node_count t))) (le_refl (triangle_count m)) (none {n = get_or s 0 0} (rw bottom (le_refl (node_count t))) (le_refl (triangle_count m)));
       }
+
+-- or has ended at once
+pub ended : (m : Mesh) (t : Tree) (passes : BoundingBox → Bool) (bottom : ℕ) → Walking m t passes (replicate 32 bottom) (place 0 0)
+ended m t passes bottom = record { long = length-replicate {A = ℕ} 32 bottom; first = 0; chain = none (omega arith) (omega arith) }
 
 -- from there it comes to all that it comes to
 pub start_same : (t : Tree) (passes : BoundingBox → Bool) (s : List ℕ) → 2 ≤ length t.nodes → pending t passes s (place 0 1) ≡ reached (all_visits t passes)

@@ -1,8 +1,8 @@
 -- Laws of what a walk comes to: up to the triangle that ends it, from a node down, and at a leaf.
-use Prim.Native.Nat.{ℕ, zero, suc, ◌+◌, ◌-◌, ◌<◌}
+use Prim.Native.Nat.{ℕ, zero, suc, ◌+◌, ◌-◌, ◌≤◌, ◌<◌}
 use Rattle.std.proofs.Common.{add-one, arith, sym, subst, ◌∙◌, drop_of_length-le, drop-cons}
-use Rattle.std.specs.Prelude.{◌≡◌, Bool, true, false, cond, List, [], ◌∷◌, ◌++◌, map, T, length, get_or, drop}
-use Rattle.std.proofs.Math.Path.{refl}
+use Rattle.std.specs.Prelude.{◌≡◌, Bool, true, false, cond, List, [], ◌∷◌, ◌++◌, map, T, length, get_or, take, drop}
+use Rattle.std.proofs.Math.Path.{refl, ap}
 use borrow.Author.Tests.{eq-eqb, ne_eqb}
 use Rattle.keys.specs.SortingTheorems.{by_test}
 use Rattle.math.specs.declared.BoundingBox.{BoundingBox}
@@ -109,3 +109,9 @@ pub items_from_all : (items : List ℕ) (i places : ℕ) → i + places ≡ leng
 unfolding items_from
 items_from_all items i zero e = sym (drop_of_length-le items {i = i} (omega arith))
 items_from_all items i (suc places) e = rw (items_from_all items (i + 1) places (omega arith), add-one i) (sym (drop-cons items i 0 (omega arith)))
+
+-- items at places that the list has are a part of it
+pub items_from_part : (items : List ℕ) (i places : ℕ) → i + places ≤ length items → items_from items i places ≡ take places (drop i items)
+unfolding items_from
+items_from_part items i zero h = refl
+items_from_part items i (suc places) h = rw (drop-cons items i 0 (omega arith)) (ap (λ rest. get_or items i 0 ∷ rest) (rw (← add-one i) (items_from_part items (i + 1) places (omega arith))))

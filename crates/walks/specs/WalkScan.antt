@@ -32,7 +32,7 @@ box_passes : (is : RayHit → Bool) (passes : Bool) (hit : RayHit) → is Miss �
 box_passes is true hit miss e = refl
 box_passes is false hit miss e = clash (sym e ∙ miss)
 
-module _ {m : Mesh} {sides : ℕ} {t : Tree} (r : Ready m sides t) where
+module _ {m : Mesh} {t : Tree} (r : Ready m t) where
   -- the surface walk finds a triangle that touches the point exactly if the scan does
   pub walk_touches_scan : (eps : Float) (p : Vec3) → le zero eps ≡ true → walk_touches m t eps p ≡ ltb 0 (length (touching m eps p))
   unfolding walk_touches surface_walk touching some touches surface_passes

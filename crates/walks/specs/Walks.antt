@@ -3,7 +3,6 @@ use Rattle.std.specs.Prelude.{ℕ, zero, suc, ◌+◌, ◌≡◌, Bool, cond, Li
 use Rattle.math.specs.declared.Vec3.{Vec3}
 use Rattle.math.specs.declared.BoundingBox.{BoundingBox}
 use Rattle.mesh_questions.specs.Accepted.{Accepted}
-use Rattle.mesh.specs.Triangles as Triangles
 use Rattle.mesh.specs.Mesh.{Mesh}
 use Rattle.tree.specs.Tree.{Tree, node_count, box_of, start_of, count_of}
 use Rattle.tree.specs.TreeRules.{TreeRules}
@@ -66,8 +65,12 @@ walk_touches m t eps p = some (touches m eps p) (reached (surface_walk m t eps p
 unfoldable pub walk_vote : Mesh → Tree → Vec3 → Vec3 → Vote
 walk_vote m t p d = vote_over (found m d p) (reached (ray_walk m t d p))
 
--- what the walks take for granted: an accepted mesh, `sides`, which says how triangles are found in it, and a tree that keeps the rules
-pub record Ready (m : Mesh) (given : ℕ) (t : Tree) : Type 0 where
+-- what the walks take for granted: an accepted mesh, and a tree that keeps the rules
+pub record Ready (m : Mesh) (t : Tree) : Type 0 where
   pub accepted : Accepted m.coords m.corners m.ends
-  pub sides : given ≡ Triangles.sides m.ends
   pub rules : TreeRules m t
+
+-- a walk over the triangles of a mesh: those that it still comes to
+pub record Walk : Type 0 where
+  pub mesh : Mesh
+  pub coming : List ℕ

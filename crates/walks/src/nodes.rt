@@ -1,4 +1,4 @@
-// The nodes of a lent tree, and the stack of a walk over them.
+// The nodes of a tree, and where a walk over them is.
 ghost use Rattle.std.specs.Prelude.{◌≡◌, ◌+◌, ◌*◌, ◌<◌, length, get_or};
 ghost use Rattle.walks.specs.Stacks as Stacks;
 

@@ -1,0 +1,73 @@
+-- `Leaves::next` meets its contract: at a leaf, its items are what the walk comes to next.
+use Prim.Native.Nat.{◌+◌, ◌-◌}
+use native.Mathlib.Omega.{arith}
+use mathlib.Core.Path.{◌≡◌, sym, ap, ◌∙◌}
+use Rattle.tree.specs.Tree.{start_of, count_of}
+use Rattle.walks.specs.Walks.{Walk, Ready}
+use Rattle.walks.specs.Stacks as Stacks
+use Rattle.walks.specs.Stacks.{pending_from}
+use Rattle.walks.proofs.leaves.Leaves.next.Goals as goal
+
+pub node_at-leaf-requires : goal.node_at-leaf-requires
+node_at-leaf-requires g c =
+    let here = rw (← c.tree.view_is) at (Stacks.here c.next_leaf-at.ensures.onward.walking (omega arith)) in
+    omega (arith, here.there, c.tree.invariant.1.nodes)
+
+pub returns-then-at-eq0-clause-end : goal.returns-then-at-eq0-clause-end
+unfolding pending_from
+returns-then-at-eq0-clause-end g c =
+    let coming = ap (λ (w : Walk). w.coming) c.self.view_is in
+    let none = rw c.if-at-eq0.true at (sym c.next_leaf-at.ensures.onward.same) in
+    sym coming ∙ none
+
+pub popped-self-inside-requires : goal.popped-self-inside-requires
+popped-self-inside-requires g c = (omega arith, (Stacks.here c.next_leaf-at.ensures.onward.walking (omega arith)).low)
+
+pub overflow_add-result : goal.overflow_add-result
+unfolding start_of count_of
+overflow_add-result g c =
+    let ready : Ready c.tree.inside.mesh _ = record { accepted = c.tree.invariant.0; rules = c.tree.invariant.1 } in
+    omega (arith, c.node_at-leaf.ensures, Stacks.leaf_within ready (rw (← c.tree.view_is) at c.next_leaf-at.ensures) (omega arith))
+
+pub offset_bounds-items-leaf : goal.offset_bounds-items-leaf
+unfolding start_of count_of
+offset_bounds-items-leaf g c =
+    let ready : Ready c.tree.inside.mesh _ = record { accepted = c.tree.invariant.0; rules = c.tree.invariant.1 } in
+    omega (arith, c.node_at-leaf.ensures, Stacks.leaf_within ready (rw (← c.tree.view_is) at c.next_leaf-at.ensures) (omega arith))
+
+pub slice_bounds-result-end : goal.slice_bounds-result-end
+unfolding start_of count_of
+slice_bounds-result-end g c =
+    let ready : Ready c.tree.inside.mesh _ = record { accepted = c.tree.invariant.0; rules = c.tree.invariant.1 } in
+    omega (arith, c.node_at-leaf.ensures, Stacks.leaf_within ready (rw (← c.tree.view_is) at c.next_leaf-at.ensures) (omega arith))
+
+pub invariant_of-self-2 : goal.invariant_of-self-2
+invariant_of-self-2 g c = rw c.popped-self-inside.ensures (Stacks.here c.next_leaf-at.ensures.onward.walking (omega arith)).after
+
+pub returns-clause-leaf : goal.returns-clause-leaf
+unfolding start_of count_of
+returns-clause-leaf g c =
+    let coming = ap (λ (w : Walk). w.coming) c.self.view_is in
+    let start = c.node_at-leaf.result.start in
+    let fewer : start + c.node_at-leaf.result.count - start ≡ c.node_at-leaf.result.count = omega arith in
+    let ready : Ready c.tree.inside.mesh _ = record { accepted = c.tree.invariant.0; rules = c.tree.invariant.1 } in
+    let found = Stacks.leaf_found ready (rw (← c.tree.view_is) at c.next_leaf-at.ensures) (omega arith) (start + c.node_at-leaf.result.count - start) (fewer ∙ c.node_at-leaf.ensures.1) in
+    sym coming ∙ rw (← c.tree.view_is, c.popped-self-inside.ensures, c.node_at-leaf.ensures.0) (rw c.node_at-leaf.ensures.0 at found.coming)
+
+pub returns-clause-triangles : goal.returns-clause-triangles
+unfolding start_of count_of
+returns-clause-triangles g c =
+    let start = c.node_at-leaf.result.start in
+    let fewer : start + c.node_at-leaf.result.count - start ≡ c.node_at-leaf.result.count = omega arith in
+    let ready : Ready c.tree.inside.mesh _ = record { accepted = c.tree.invariant.0; rules = c.tree.invariant.1 } in
+    let found = Stacks.leaf_found ready (rw (← c.tree.view_is) at c.next_leaf-at.ensures) (omega arith) (start + c.node_at-leaf.result.count - start) (fewer ∙ c.node_at-leaf.ensures.1) in
+    rw (← c.self.view_is, ← c.tree.view_is, c.node_at-leaf.ensures.0) (rw c.node_at-leaf.ensures.0 at found.triangles)
+
+pub returns-clause-places : goal.returns-clause-places
+unfolding start_of count_of
+returns-clause-places g c =
+    let start = c.node_at-leaf.result.start in
+    let fewer : start + c.node_at-leaf.result.count - start ≡ c.node_at-leaf.result.count = omega arith in
+    let ready : Ready c.tree.inside.mesh _ = record { accepted = c.tree.invariant.0; rules = c.tree.invariant.1 } in
+    let found = Stacks.leaf_found ready (rw (← c.tree.view_is) at c.next_leaf-at.ensures) (omega arith) (start + c.node_at-leaf.result.count - start) (fewer ∙ c.node_at-leaf.ensures.1) in
+    rw c.node_at-leaf.ensures.0 (rw c.node_at-leaf.ensures.0 at found.some, rw c.node_at-leaf.ensures.0 at found.few)
