@@ -1,6 +1,6 @@
 -- What the vote loop and `point_answer` rest on: one over each direction is finite and not zero, the tolerance of the surface test is not below zero, and the
 -- loop's steps are those of the definition.
-use Rattle.std.specs.Prelude.{ℕ, zero, suc, ◌+◌, ◌≤◌, ◌<◌, ◌≡◌, refl, true, cond, map, T, Float, get_or, drop}
+use Rattle.std.specs.Prelude.{Option, Some, None, ℕ, zero, suc, ◌+◌, ◌≤◌, ◌<◌, ◌≡◌, refl, true, cond, map, T, Float, get_or, drop}
 use Rattle.std.proofs.Common.{arith, ap}
 use Rattle.std.specs.Float.{nan, inf, fin}
 use Rattle.std.specs.Float.Ieee.{binary64, of_bits, is_nan, div, mul, le, lt, ne, eq}
@@ -19,10 +19,9 @@ use Rattle.mesh.specs.Boxes.{surface_eps, prepare}
 use Rattle.tree.specs.Tree.{Tree}
 use Rattle.edges.specs.Edges.{closed}
 use Rattle.rays.specs.BoxLaws.{finite_non_zero}
-use Rattle.scan.specs.declared.votes.Vote.{Vote}
-use Rattle.scan.specs.declared.votes.Vote.TheVariants.{None, Odd, Even}
+use Rattle.scan.specs.declared.votes.Parity.TheVariants.{Odd, Even}
 use Rattle.scan.specs.declared.votes.Votes.{Votes}
-use Rattle.scan.specs.Scan.{inverse, directions, counted, ended, votes_from}
+use Rattle.scan.specs.Scan.{Vote, inverse, directions, counted, ended, votes_from}
 use Rattle.points.specs.declared.Prepared.{Prepared}
 use Rattle.ray_walk.specs.Planes.{near_places}
 use Rattle.walks.specs.Walks.{Ready}
@@ -69,8 +68,8 @@ votes_from_next cast v (suc (suc (suc k))) h = absurd (omega arith)
 pub counted_sum : (v : Votes) (vote : Vote) → (counted v vote).odd + (counted v vote).even ≤ v.odd + v.even + 1
 unfolding counted
 counted_sum v None = omega arith
-counted_sum v Odd = omega arith
-counted_sum v Even = omega arith
+counted_sum v (Some Odd) = omega arith
+counted_sum v (Some Even) = omega arith
 
 -- ---- what is prepared
 

@@ -1,7 +1,7 @@
 -- The plain scan answers a rewriting of an accepted mesh as it answers the mesh (`plain_scan_rewritten`). The vertices are the same in some order, so the boxes of
 -- the two meshes differ at most in the signs of zeros, which no test sees. One is closed if the other is. What the scan finds at a triangle depends on the points
 -- of its corners alone, and the corner points of the triangles are the same in some order; the scan counts what it finds, and the order does not matter.
-use Rattle.std.specs.Prelude.{ℕ, ◌+◌, ◌*◌, ◌/◌, ◌%◌, ◌<◌, ◌≡◌, Bool, true, cond, ◌&&◌, List, [], ◌∷◌, map, eqb, ltb, Float, length, get_or}
+use Rattle.std.specs.Prelude.{Option, Some, None, ℕ, ◌+◌, ◌*◌, ◌/◌, ◌%◌, ◌<◌, ◌≡◌, Bool, true, cond, ◌&&◌, List, [], ◌∷◌, map, eqb, ltb, Float, length, get_or}
 use Rattle.std.proofs.Common.{arith, sym, ap, ◌∙◌}
 use Rattle.std.proofs.Math.Path.{ap₂, fun_ext}
 use Rattle.std.proofs.lemmas.Simd.{map-map}
@@ -28,9 +28,8 @@ use Rattle.closest.specs.Closest.{closest_on_triangle}
 use Rattle.rays.specs.declared.RayHit.{RayHit}
 use Rattle.rays.specs.declared.RayHit.TheVariants.{Miss}
 use Rattle.rays.specs.Rays.{ray_triangle}
-use Rattle.scan.specs.declared.votes.Vote.{Vote}
-use Rattle.scan.specs.declared.votes.Vote.TheVariants.{None, Odd, Even}
-use Rattle.scan.specs.Scan.{which, some, surface_passes, within, touches, touching, ray_passes, crossing, found, is_hit, is_degenerate, vote_over, vote, votes, plain_scan}
+use Rattle.scan.specs.declared.votes.Parity.TheVariants.{Odd, Even}
+use Rattle.scan.specs.Scan.{Vote, which, some, surface_passes, within, touches, touching, ray_passes, crossing, found, is_hit, is_degenerate, vote_over, vote, votes, plain_scan}
 use Rattle.scan.specs.ScanLaws.{which_nothing, length_which}
 use Rattle.polyhedron.specs.Rewritten.{vertex_count, Rewritten}
 use Rattle.polyhedron.specs.Demand3.{Accepts, F64s}
@@ -83,7 +82,7 @@ found_at d p ps = cond (ray_passes d p (include_all empty ps)) (ray_triangle p d
 
 -- the vote of so many Degenerate triangles and so many Hits
 abbrev vote_of : ℕ → ℕ → Vote
-vote_of degenerate hits = cond (ltb 0 degenerate) None (cond (eqb (hits % 2) 1) Odd Even)
+vote_of degenerate hits = cond (ltb 0 degenerate) None (cond (eqb (hits % 2) 1) (Some Odd) (Some Even))
 
 -- ---- the parts of the scan
 

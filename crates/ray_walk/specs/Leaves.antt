@@ -8,17 +8,16 @@ use Rattle.mesh.specs.Items.{Item}
 use Rattle.mesh.specs.Mesh.{Mesh, own_box}
 use Rattle.rays.specs.declared.RayHit.{RayHit}
 use Rattle.rays.specs.declared.RayHit.TheVariants.{Miss}
-use Rattle.scan.specs.declared.votes.Vote.{Vote}
-use Rattle.scan.specs.Scan.{ray_passes, found}
+use Rattle.scan.specs.Scan.{Vote, ray_passes, found}
 use Rattle.scan.specs.ScanLaws.{cast_over, cast_over_append, with_found}
 use Rattle.walks.specs.Stacks.{raised}
 use Rattle.walks.specs.Walks.{items_from}
 use Rattle.walks.specs.WalkLaws.{items_from_append}
 
 -- the first n of a list are triangles whose own boxes pass, and what the ray from o in direction d finds at them is what it finds at the items at `places` places from i on
-pub record Kept (m : Mesh) (sides : ℕ) (d o : Vec3) (items : List ℕ) (i places : ℕ) (list : List ℕ) (n : ℕ) : Type 0 where
+pub record Kept (m : Mesh) (d o : Vec3) (items : List ℕ) (i places : ℕ) (list : List ℕ) (n : ℕ) : Type 0 where
   pub few : n ≤ places
-  pub each : (j : ℕ) → j < n → Item m sides (get_or list j 0) × (ray_passes d o (own_box m (get_or list j 0)) ≡ true)
+  pub each : (j : ℕ) → j < n → Item m (get_or list j 0) × (ray_passes d o (own_box m (get_or list j 0)) ≡ true)
   pub same : (v : Vote) → cast_over (found m d o) v (items_from list 0 n) ≡ cast_over (found m d o) v (items_from items i places)
 
 -- a store behind them changes none of them
@@ -32,15 +31,15 @@ cast_last : (find : ℕ → RayHit) (v : Vote) (l : List ℕ) (a places : ℕ) �
 unfolding cast_over items_from
 cast_last find v l a places = ap (cast_over find v) (items_from_append l a places 1) ∙ cast_over_append find v (items_from l a places) (items_from l (a + places) 1)
 
-module _ {m : Mesh} {sides : ℕ} {d o : Vec3} {items : List ℕ} {i : ℕ} where
+module _ {m : Mesh} {d o : Vec3} {items : List ℕ} {i : ℕ} where
   -- none at first
-  pub kept_none : (list : List ℕ) → Kept m sides d o items i 0 list 0
+  pub kept_none : (list : List ℕ) → Kept m d o items i 0 list 0
   unfolding items_from
   kept_none list = record { few = omega arith; each = λ j h. absurd (omega arith); same = λ v. refl }
 
   -- one more item, which counts if its own box passes
-  pub kept_next : {places : ℕ} {list : List ℕ} {n : ℕ} → Kept m sides d o items i places list n → n < length list → (t : ℕ) → get_or items (i + places) 0 ≡ t → Item m sides t
-      → (b : Bool) → ray_passes d o (own_box m t) ≡ b → Kept m sides d o items i (places + 1) (set list n t) (raised n b)
+  pub kept_next : {places : ℕ} {list : List ℕ} {n : ℕ} → Kept m d o items i places list n → n < length list → (t : ℕ) → get_or items (i + places) 0 ≡ t → Item m t
+      → (b : Bool) → ray_passes d o (own_box m t) ≡ b → Kept m d o items i (places + 1) (set list n t) (raised n b)
   kept_next {places} {list} {n} k room t here item true e =
       let at_n : get_or (set list n t) n 0 ≡ t = get_or-set_same list n t 0 room in
       let last : 0 + n ≡ n = omega arith in

@@ -14,7 +14,6 @@ use Rattle.math.specs.Vectors.{at}
 use Rattle.tree.specs.Tree.{box_at}
 use Rattle.rays.specs.Slabs.{entry, minus_exit, Met}
 use Rattle.ray_walk.specs.declared.Near.{Near}
-use Rattle.ray_walk.specs.declared.Ray.{Ray}
 
 -- where among a node's six floats the nearer plane on an axis stands
 unfoldable pub near_place : Float → ℕ → ℕ
@@ -27,11 +26,11 @@ near_places inverse = record { x = near_place inverse.x 0; y = near_place invers
 unfoldable pub meets_at : List Float → ℕ → Float → Float → Float
 meets_at boxes i origin inverse = (get_or boxes i nan ⊖ origin) ⊗ inverse
 
--- what `hits_node` takes for granted: the node is in the list, the ray and its box are as the quicker test wants them, and the ray's places are right
-pub record Seen (boxes : List Float) (n : ℕ) (ray : Ray) : Type 0 where
+-- what is known where a node's box is tested: the node is in the list, the ray and the box are as the quicker test wants them, and the ray's places are right
+pub record Seen (boxes : List Float) (n : ℕ) (origin inverse : Vec3) (planes : Near) : Type 0 where
   pub there : 6 * n + 5 < length boxes
-  pub met : Met ray.origin ray.inverse (box_at boxes n)
-  pub near : ray.near ≡ near_places ray.inverse
+  pub met : Met origin inverse (box_at boxes n)
+  pub near : planes ≡ near_places inverse
 
 -- on one axis: the nearer plane is where the ray enters the slab, the farther one where it leaves
 module _ (boxes : List Float) (i axis place : ℕ) (origin inverse : Float) (near : place ≡ near_place inverse axis) where
@@ -58,18 +57,9 @@ near_place_within : (inverse : Float) (axis : ℕ) → (axis ≤ near_place inve
 unfolding near_place
 near_place_within inverse axis = by_test (lt zero inverse) (λ e. rw e (omega arith, omega arith)) (λ e. rw e (omega arith, omega arith))
 
-module _ {boxes : List Float} {n : ℕ} {ray : Ray} (s : Seen boxes n ray) where
-  abbrev near : Near
-  near = ray.near
-
+module _ {boxes : List Float} {n : ℕ} {o inv : Vec3} {near : Near} (s : Seen boxes n o inv near) where
   abbrev b : BoundingBox
   b = box_at boxes n
-
-  abbrev o : Vec3
-  o = ray.origin
-
-  abbrev inv : Vec3
-  inv = ray.inverse
 
   places : (near.x ≡ near_place inv.x 0) × (near.y ≡ near_place inv.y 1) × (near.z ≡ near_place inv.z 2)
   unfolding near_places

@@ -1,5 +1,5 @@
 -- Document 01's plain scan: the mesh rule without a tree. Its parts have names of their own. Definitions only.
-use Rattle.std.specs.Prelude.{ℕ, ◌+◌, ◌%◌, Bool, true, false, not, cond, ◌&&◌, ◌||◌, List, [], ◌∷◌, eqb, ltb, Float, length}
+use Rattle.std.specs.Prelude.{Option, Some, None, ℕ, ◌+◌, ◌%◌, Bool, true, false, not, cond, ◌&&◌, ◌||◌, List, [], ◌∷◌, eqb, ltb, Float, length}
 use Rattle.std.specs.Float.{binary64}
 use Rattle.std.specs.Float.Ieee.{of_bits, le}
 use Rattle.float.specs.Arithmetic.{◌⊘◌, one}
@@ -16,8 +16,8 @@ use Rattle.closest.specs.Closest.{closest_on_triangle}
 use Rattle.rays.specs.declared.RayHit.{RayHit}
 use Rattle.rays.specs.declared.RayHit.TheVariants.{Miss, Hit, Degenerate}
 use Rattle.rays.specs.Rays.{ray_hits_box, ray_triangle}
-use Rattle.scan.specs.declared.votes.Vote.{Vote}
-use Rattle.scan.specs.declared.votes.Vote.TheVariants.{None, Odd, Even}
+use Rattle.scan.specs.declared.votes.Parity.{Parity}
+use Rattle.scan.specs.declared.votes.Parity.TheVariants.{Odd, Even}
 use Rattle.scan.specs.declared.votes.Votes.{Votes}
 
 -- the three answers
@@ -88,13 +88,17 @@ is_degenerate Degenerate = true
 
 -- ---- the votes
 
+-- the vote of a direction: odd, even, or none
+abbrev pub Vote : Type 0
+Vote = Option Parity
+
 -- the vote of what was found at triangles: none with any Degenerate, else the number of Hits, odd or even
 unfoldable pub vote_over : (ℕ → RayHit) → List ℕ → Vote
 vote_over find list =
     cond
     (some (λ t. is_degenerate (find t)) list)
     None
-    (cond (eqb (length (which (λ t. is_hit (find t)) list) % 2) 1) Odd Even)
+    (cond (eqb (length (which (λ t. is_hit (find t)) list) % 2) 1) (Some Odd) (Some Even))
 
 -- the vote of a direction
 unfoldable pub vote : Mesh → Vec3 → Vec3 → Vote
@@ -103,8 +107,8 @@ vote m p d = vote_over (found m d p) (all_triangles m)
 -- the votes with one more
 unfoldable pub counted : Votes → Vote → Votes
 counted v None = v
-counted v Odd = record { odd = v.odd + 1; even = v.even }
-counted v Even = record { odd = v.odd; even = v.even + 1 }
+counted v (Some Odd) = record { odd = v.odd + 1; even = v.even }
+counted v (Some Even) = record { odd = v.odd; even = v.even + 1 }
 
 -- two votes are odd or two even
 unfoldable pub ended : Votes → Bool

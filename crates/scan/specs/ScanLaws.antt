@@ -1,5 +1,5 @@
 -- Laws of the scan's lists: what a test and a vote say of a list does not depend on its order, and can be found part by part.
-use Rattle.std.specs.Prelude.{ℕ, suc, ◌+◌, ◌%◌, ◌≡◌, Bool, ◌||◌, eqb}
+use Rattle.std.specs.Prelude.{Option, Some, None, ℕ, suc, ◌+◌, ◌%◌, ◌≡◌, Bool, ◌||◌, eqb}
 use native.Mathlib.Omega.{arith}
 use Rattle.std.proofs.Math.Path.{refl, sym}
 use Rattle.std.proofs.Common.{◌∙◌}
@@ -13,9 +13,8 @@ use Rattle.keys.specs.SortingTheorems.{by_test}
 use Rattle.keys.specs.Permutations.{permuted_sum}
 use Rattle.rays.specs.declared.RayHit.{RayHit}
 use Rattle.rays.specs.declared.RayHit.TheVariants.{Miss, Hit, Degenerate}
-use Rattle.scan.specs.declared.votes.Vote.{Vote}
-use Rattle.scan.specs.declared.votes.Vote.TheVariants.{None, Odd, Even}
-use Rattle.scan.specs.Scan.{which, some, is_hit, is_degenerate, vote_over}
+use Rattle.scan.specs.declared.votes.Parity.TheVariants.{Odd, Even}
+use Rattle.scan.specs.Scan.{Vote, which, some, is_hit, is_degenerate, vote_over}
 
 module _ (test : ℕ → Bool) where
   pub which_nothing : which test [] ≡ []
@@ -71,8 +70,8 @@ module _ (test : ℕ → Bool) where
 unfoldable pub with_found : Vote → RayHit → Vote
 with_found vote Miss = vote
 with_found None Hit = None
-with_found Odd Hit = Even
-with_found Even Hit = Odd
+with_found (Some Odd) Hit = (Some Even)
+with_found (Some Even) Hit = (Some Odd)
 with_found vote Degenerate = None
 
 -- the vote so far, with what is found at triangles one after another
@@ -82,7 +81,7 @@ cast_over find v (t ∷ rest) = cast_over find (with_found v (find t)) rest
 
 -- the vote of n Hits
 abbrev parity : ℕ → Vote
-parity n = cond (eqb (n % 2) 1) Odd Even
+parity n = cond (eqb (n % 2) 1) (Some Odd) (Some Even)
 
 -- one Hit more
 parity_hit : (n : ℕ) → with_found (parity n) Hit ≡ parity (n + 1)
@@ -139,7 +138,7 @@ module _ (find : ℕ → RayHit) where
   cast_vote n (t ∷ l) = rw (some_cons degenerate t l, length_which (λ t. is_hit (find t)) t l) (cast_one n (find t) l (λ k. cast_vote k l))
 
   -- the vote of a list is what is found at its triangles one after another
-  pub vote_over_cast : (l : List ℕ) → vote_over find l ≡ cast_over find Even l
+  pub vote_over_cast : (l : List ℕ) → vote_over find l ≡ cast_over find (Some Even) l
   unfolding vote_over
   vote_over_cast l = sym (cast_vote 0 l ∙ rw same)
     where

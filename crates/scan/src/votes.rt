@@ -1,17 +1,25 @@
 // The votes of the three ray directions. The definitions are in specs/Scan.antt.
-ghost use Rattle.std.specs.Prelude.{◌≡◌, ◌<◌};
+ghost use Rattle.std.specs.Prelude.{◌≡◌, ◌<◌, Some};
+ghost use Rattle.scan.specs.Answers as Answers;
 ghost use Rattle.scan.specs.Scan as Scan;
 ghost use Rattle.scan.specs.ScanLaws as ScanLaws;
 
 use rays::RayHit;
 
-// The vote of a direction.
+// How many crossings a direction has. A direction without a parity has no vote: its ray passes an edge or a corner too
+// closely to say.
 #[derive(Clone, Copy)]
-pub enum Vote {
-    // The ray passes an edge or a corner too closely to say.
-    None,
+pub enum Parity {
     Odd,
     Even,
+}
+
+// The answer to a point.
+#[derive(Clone, Copy)]
+pub enum Answer {
+    Outside,
+    Inside,
+    Undecided,
 }
 
 // How many votes are odd, and how many even.
@@ -21,43 +29,58 @@ pub struct Votes {
     pub even: usize,
 }
 
-impl Vote {
-    // The vote so far, with what is found at one more triangle.
-    pub fn with(self, hit: RayHit) -> Vote
-        ensures { result ≡ ScanLaws.with_found self hit }
+impl Parity {
+    // The parity with what is found at one more triangle, if that can be said.
+    #[tactic(auto, unfolding(crate::specs::ScanLaws::with_found))]
+    pub fn with(self, hit: RayHit) -> Option<Parity>
+        ensures { result ≡ ScanLaws.with_found (Some self) hit }
     {
         match hit {
-            RayHit::Miss => self,
+            RayHit::Miss => Some(self),
             RayHit::Hit => match self {
-                Vote::None => Vote::None,
-                Vote::Odd => Vote::Even,
-                Vote::Even => Vote::Odd,
+                Parity::Odd => Some(Parity::Even),
+                Parity::Even => Some(Parity::Odd),
             },
-            RayHit::Degenerate => Vote::None,
+            RayHit::Degenerate => None,
+        }
+    }
+}
+
+impl Answer {
+    // Its byte in a list of answers.
+    pub fn byte(self) -> u8
+        ensures { result ≡ Answers.byte self }
+    {
+        match self {
+            Answer::Outside => 0,
+            Answer::Inside => 1,
+            Answer::Undecided => 2,
         }
     }
 }
 
 impl Votes {
     // The votes with one more.
-    pub fn counted(self, vote: Vote) -> Votes
+    #[tactic(auto, unfolding(crate::specs::Scan::counted))]
+    pub fn counted(self, vote: Option<Parity>) -> Votes
         requires { (self.odd < 3) × (self.even < 3) }
         ensures { result ≡ Scan.counted self vote }
     {
         match vote {
-            Vote::None => self,
-            Vote::Odd => Votes {
+            None => self,
+            Some(Parity::Odd) => Votes {
                 odd: self.odd + 1,
-                even: self.even,
+                ..self
             },
-            Vote::Even => Votes {
-                odd: self.odd,
+            Some(Parity::Even) => Votes {
                 even: self.even + 1,
+                ..self
             },
         }
     }
 
     // Whether two votes are odd or two even.
+    #[tactic(auto, unfolding(crate::specs::Scan::ended))]
     pub fn ended(self) -> bool
         ensures { result ≡ Scan.ended self }
     {
@@ -65,15 +88,16 @@ impl Votes {
     }
 
     // More odd votes are inside, more even outside, equal undecided.
-    pub fn verdict(self) -> u8
-        ensures { result ≡ Scan.verdict self }
+    #[tactic(auto, unfolding(crate::specs::Scan::verdict))]
+    pub fn verdict(self) -> Answer
+        ensures { Answers.byte result ≡ Scan.verdict self }
     {
         if self.even < self.odd {
-            return 1;
+            return Answer::Inside;
         }
         if self.odd < self.even {
-            return 0;
+            return Answer::Outside;
         }
-        2
+        Answer::Undecided
     }
 }

@@ -6,8 +6,7 @@ use Rattle.mesh_questions.specs.Accepted.{Accepted}
 use Rattle.mesh.specs.Mesh.{Mesh}
 use Rattle.tree.specs.Tree.{Tree, node_count, box_of, start_of, count_of}
 use Rattle.tree.specs.TreeRules.{TreeRules}
-use Rattle.scan.specs.declared.votes.Vote.{Vote}
-use Rattle.scan.specs.Scan.{some, surface_passes, touches, ray_passes, found, is_degenerate, vote_over}
+use Rattle.scan.specs.Scan.{Vote, some, surface_passes, touches, ray_passes, found, is_degenerate, vote_over}
 
 -- what a walk comes to: a node, whose box it tests, or a triangle of a leaf
 pub data Visit : Type 0 where

@@ -1,23 +1,19 @@
--- `ray_walk` meets its contract. The invariant: the vote so far, with what is found in all that the walk still comes to, is that of all that it comes to. The measure is
--- the nodes from the walk's place on.
-use Prim.Native.Nat.{◌-◌}
+-- `ray_walk` meets its contract. The invariant: the parity so far, with what is found in all that the walk still comes to, is that of all that it comes to. The measure is
+-- how many triangles it still comes to.
 use mathlib.Core.Path.{◌≡◌}
-use Rattle.mesh.specs.Mesh.{mesh}
-use Rattle.tree.specs.Tree.{tree, node_count}
-use Rattle.scan.specs.declared.votes.Vote.TheVariants.{Even}
+use lib.ListN.{length}
+use Rattle.std.specs.Prelude.{Some}
+use Rattle.scan.specs.declared.votes.Parity.TheVariants.{Even}
 use Rattle.scan.specs.Scan.{ray_passes, found}
 use Rattle.scan.specs.ScanLaws.{cast_over}
 use Rattle.walks.specs.Walks.{all_visits, reached}
-use Rattle.walks.specs.Stacks.{Walking, pending}
 use Rattle.ray_walk.proofs.ray_walk.Given as goal
 
-abbrev pub invariant-loop-at : goal.invariant-loop-at
-invariant-loop-at l =
-    let m = mesh l.coords l.corners l.ends in
-    let t = tree l.boxes l.nodes l.items in
-    let find = found m l.ray.direction l.ray.origin in
-    let passes = ray_passes l.ray.direction l.ray.origin in
-    Walking m t passes l.stack l.at × (cast_over find l.vote (pending t passes l.stack l.at) ≡ cast_over find Even (reached (all_visits t passes)))
+abbrev pub invariant-loop-items : goal.invariant-loop-items
+invariant-loop-items l =
+    let find = found l.mesh l.fn.ray.direction l.fn.ray.origin in
+    let passes = ray_passes l.fn.ray.direction l.fn.ray.origin in
+    (l.leaves.mesh ≡ l.mesh) × (cast_over find (Some l.parity) l.leaves.coming ≡ cast_over find (Some Even) (reached (all_visits l.fn.tree.tree passes)))
 
-abbrev pub decreases-loop-at : goal.decreases-loop-at
-decreases-loop-at l = node_count (tree l.boxes l.nodes l.items) - l.at.node
+abbrev pub decreases-loop-items : goal.decreases-loop-items
+decreases-loop-items l = length l.leaves.coming

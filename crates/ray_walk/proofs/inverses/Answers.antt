@@ -1,8 +1,0 @@
--- `inverses` meets its contract: the quotients of the three directions.
-use Rattle.scan.specs.Scan.{directions}
-use Rattle.ray_walk.specs.Casts.{direction}
-use Rattle.ray_walk.proofs.inverses.Goals as goal
-
-pub returns : goal.returns
-unfolding direction directions
-returns c = rw (c.inverse-3.ensures, c.direction-3.ensures, c.inverse-2.ensures, c.direction-2.ensures, c.inverse.ensures, c.direction.ensures)
