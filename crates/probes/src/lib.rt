@@ -9,8 +9,6 @@ ghost use Rattle.float.specs.TotalOrder as TotalOrder;
 ghost use Rattle.sqrt.specs.Guess as Guess;
 ghost use Rattle.sqrt.specs.Root as Root;
 
-use sqrt::significand::Found;
-
 #[unsafe(no_mangle)]
 pub extern "C" fn probe_min(a: f64, b: f64) -> f64
     ensures { result ≡ Rules.min a b }
@@ -73,10 +71,7 @@ pub extern "C" fn probe_guess(digits: u64, odd: u64) -> f64
 pub extern "C" fn probe_settle(p: u64, w: u64) -> u64
     ensures { (result ≡ 0) ⊎ (result ≡ Root.nearest_root (w * 2 ^ 52)) }
 {
-    match sqrt::significand::settle(p, w) {
-        Found::At(q) => q,
-        Found::Missed => 0,
-    }
+    sqrt::significand::settle(p, w).unwrap_or(0)
 }
 
 // The square root's second way, digit by digit.

@@ -1,15 +1,13 @@
 -- What the steps of the square root promise to each other. Definitions only.
-use Rattle.std.specs.Prelude.{◌≡◌, ℕ, ◌+◌, ◌*◌, ◌%◌, ◌^◌, ◌≤◌, ◌<◌}
-use Rattle.sqrt.specs.declared.significand.Found.{Found}
-use Rattle.sqrt.specs.declared.significand.Found.TheVariants.{At, Missed}
+use Rattle.std.specs.Prelude.{◌≡◌, ℕ, ◌+◌, ◌*◌, ◌%◌, ◌^◌, ◌≤◌, ◌<◌, Option, Some, None}
 use Rattle.sqrt.specs.declared.Scaled.{Scaled}
 use Rattle.sqrt.specs.Root.{nearest_root}
 use Rattle.float.specs.OrderTheorems.Pattern.{magnitude}
 
 -- the check of a guess: a number that is given is the one nearest to the root of v
-abbrev pub Finds : ℕ → Found → Type 0
-Finds v (At q) = q ≡ nearest_root v
-Finds v Missed = Unit {0}
+abbrev pub Finds : ℕ → Option ℕ → Type 0
+Finds v (Some q) = q ≡ nearest_root v
+Finds v None = Unit {0}
 
 -- the value with these bits, taken apart into 53 digits and an exponent
 pub record Scales (bits : ℕ) (s : Scaled) : Type 0 where

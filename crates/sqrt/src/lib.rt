@@ -17,6 +17,18 @@ pub struct Scaled {
     pub g: u64,
 }
 
+impl Scaled {
+    // The root of the value: half of g stays an exponent, and its last digit goes into the
+    // significand.
+    fn root(self) -> f64
+        requires { (52 ≤ self.g) × (self.g < 4096) }
+        ensures { result ≡ odd 53 false (Root.nearest_root ((2 ^ 52 + self.digits % 2 ^ 52) * 2 ^ (52 + self.g % 2))) ((self.g - 52) / 2) 1074 }
+    {
+        let q = nearest_root(self.digits, self.g);
+        f64::from_bits((self.g - 52) / 2 * 0x10_0000_0000_0000 + q)
+    }
+}
+
 // The value with these bits so taken apart. The digits of a subnormal value are moved up until there
 // are 53.
 fn taken_apart(bits: u64) -> Scaled
@@ -24,10 +36,10 @@ fn taken_apart(bits: u64) -> Scaled
     ensures { Scales bits result }
 {
     if bits < 0x10_0000_0000_0000 {
-        let missing = u64::leading_zeros(bits) - 11;
+        let missing = u64::from(bits.leading_zeros()) - 11;
         Scaled {
             digits: bits << missing,
-            g: 1074 - missing as u64,
+            g: 1074 - missing,
         }
     } else {
         Scaled {
@@ -37,30 +49,19 @@ fn taken_apart(bits: u64) -> Scaled
     }
 }
 
-// The root of such a value: half of g stays an exponent, and its last digit goes into the
-// significand.
-fn scaled_root(digits: u64, g: u64) -> f64
-    requires { (52 ≤ g) × (g < 4096) }
-    ensures { result ≡ odd 53 false (Root.nearest_root ((2 ^ 52 + digits % 2 ^ 52) * 2 ^ (52 + g % 2))) ((g - 52) / 2) 1074 }
-{
-    let q = nearest_root(digits, g);
-    f64::from_bits((g - 52) / 2 * 0x10_0000_0000_0000 + q)
-}
-
 // IEEE 754's square root: NaN of NaN and of every negative number, a zero of the same zero.
 pub fn root(x: f64) -> f64
     ensures { result ≡ Root.root x }
 {
     if 0.0 < x {
-        let bits = f64::to_bits(x);
+        let bits = x.to_bits();
         if 0x7FF0_0000_0000_0000 <= bits {
             return x;
         }
-        let s = taken_apart(bits);
-        return scaled_root(s.digits, s.g);
+        return taken_apart(bits).root();
     }
     if x == 0.0 {
         return x;
     }
-    0.0 / 0.0
+    f64::NAN
 }

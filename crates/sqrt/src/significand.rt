@@ -6,13 +6,6 @@ ghost use Rattle.sqrt.specs.Guess as Guess;
 ghost use Rattle.sqrt.specs.Root.{nearest_root};
 ghost use Rattle.sqrt.specs.Steps.{Finds};
 
-// What a look at a guess and its neighbours finds: the root, or that none of them is it.
-#[derive(Clone, Copy)]
-pub enum Found {
-    At(u64),
-    Missed,
-}
-
 // A closer guess at 1 / root of x from a guess y, by Newton's rule; half is x / 2. It is written so
 // that the products do not wait for each other.
 fn closer(half: f64, y: f64) -> f64
@@ -50,48 +43,39 @@ pub fn guess(digits: u64, odd: u64) -> f64
 // With p = a * 2^26 + b the difference u = w * 2^52 - p * p + p is worked out from its front, and a
 // p for which a part of it is negative or large is given up. The nearest is p for 0 < u <= 2 p, and
 // its neighbours for u up to 4 p + 2 and up to 6 p + 6.
-pub fn settle(p: u64, w: u64) -> Found
+pub fn settle(p: u64, w: u64) -> Option<u64>
     ensures { Finds (w * 2 ^ 52) result }
 {
     if 0x20_0000_0000_0000 <= p {
-        return Found::Missed;
+        return None;
     }
     if 0x40_0000_0000_0000 <= w {
-        return Found::Missed;
+        return None;
     }
     let a = p / 0x400_0000;
     let b = p % 0x400_0000;
-    let aa = a * a;
-    if w < aa {
-        return Found::Missed;
-    }
-    let t = w - aa;
+    let t = w.checked_sub(a * a)?;
     if 0x4000_0000 <= t {
-        return Found::Missed;
+        return None;
     }
-    let ab = 2 * a * b;
-    if t * 0x400_0000 < ab {
-        return Found::Missed;
-    }
-    let d = t * 0x400_0000 - ab;
+    let d = (t * 0x400_0000).checked_sub(2 * a * b)?;
     if 0x10_0000_0000 <= d {
-        return Found::Missed;
+        return None;
     }
-    let bb = b * b;
-    if d * 0x400_0000 + p <= bb {
-        return Found::Missed;
+    let u = (d * 0x400_0000 + p).checked_sub(b * b)?;
+    if u == 0 {
+        return None;
     }
-    let u = d * 0x400_0000 + p - bb;
     if u <= 2 * p {
-        return Found::At(p);
+        return Some(p);
     }
     if u <= 4 * p + 2 {
-        return Found::At(p + 1);
+        return Some(p + 1);
     }
     if u <= 6 * p + 6 {
-        return Found::At(p + 2);
+        return Some(p + 2);
     }
-    Found::Missed
+    None
 }
 
 // The same root digit by digit: 54 binary digits of the root of 4 w * 2^52, from w's digits in pairs
@@ -102,8 +86,7 @@ pub fn by_digits(w: u64) -> u64
     let mut rest = w % 0x40_0000_0000_0000;
     let mut root: u64 = 0;
     let mut over: u64 = 0;
-    let mut i: u64 = 0;
-    while i < 54 {
+    for _ in 0..54u64 {
         over = over * 4 + rest / 0x10_0000_0000_0000;
         rest = rest % 0x10_0000_0000_0000 * 4;
         root = root * 2;
@@ -111,23 +94,19 @@ pub fn by_digits(w: u64) -> u64
             over = over - (root * 2 + 1);
             root = root + 1;
         }
-        i += 1;
     }
     (root + 1) / 2
 }
 
 // The number nearest to the root of w * 2^52, if it is next to the digits of the guess s, taken for a
 // number from 2^52 on.
-pub fn settle_guess(s: f64, w: u64) -> Found
+pub fn settle_guess(s: f64, w: u64) -> Option<u64>
     ensures { Finds (w * 2 ^ 52) result }
 {
-    if s != s {
-        return Found::Missed;
+    if s.is_nan() {
+        return None;
     }
-    settle(
-        0xF_FFFF_FFFF_FFFF + f64::to_bits(s) % 0x10_0000_0000_0000,
-        w,
-    )
+    settle(0xF_FFFF_FFFF_FFFF + s.to_bits() % 0x10_0000_0000_0000, w)
 }
 
 // The whole number nearest to the root of 1.digits, or of twice that where `odd` is odd, times 2^52.
@@ -136,7 +115,7 @@ pub fn nearest_root(digits: u64, odd: u64) -> u64
 {
     let w = (0x10_0000_0000_0000 + digits % 0x10_0000_0000_0000) * (1 + odd % 2);
     match settle_guess(guess(digits, odd), w) {
-        Found::At(q) => q,
-        Found::Missed => by_digits(w),
+        Some(q) => q,
+        None => by_digits(w),
     }
 }

@@ -23,13 +23,13 @@ float_to_bits-bits c = number _ (held c) (above c)
 pub returns-then-bits-ge9218868437227405312 : goal.returns-then-bits-ge9218868437227405312
 returns-then-bits-ge9218868437227405312 c = root_infinite _ (held c.before) (above c.before) c.if-bits-ge9218868437227405312.true
 
-pub taken_apart-s-requires : goal.taken_apart-s-requires
-taken_apart-s-requires c = (bits_positive _ (held c.before) (above c.before), c.if-bits-ge9218868437227405312.false)
+pub taken_apart-requires : goal.taken_apart-requires
+taken_apart-requires c = (bits_positive _ (held c.before) (above c.before), c.if-bits-ge9218868437227405312.false)
 
 pub returns-then-x : goal.returns-then-x
 returns-then-x c =
-    let s = c.taken_apart-s.ensures in
-    c.scaled_root.ensures ∙ root_scaled _ (held c.before.before.before) (above c.before.before.before) _ _ c.if-bits-ge9218868437227405312.false s.low s.value
+    let s = c.taken_apart.ensures in
+    c.root.ensures ∙ root_scaled _ (held c.before.before.before) (above c.before.before.before) _ _ c.if-bits-ge9218868437227405312.false s.low s.value
 
 pub returns-then-x-2 : goal.returns-then-x-2
 unfolding of_bits

@@ -3,10 +3,8 @@ use mathlib.Core.Path.{◌≡◌, subst, ap, ◌∙◌}
 use Prim.Native.Nat.{ℕ, ◌+◌, ◌*◌, ◌%◌, ◌^◌}
 use native.Mathlib.Nat.{mod-eq_of_lt}
 use native.Mathlib.Omega.{arith}
-use lib.Dec.{lit≤}
 use Rattle.sqrt.specs.Root.{nearest_root}
 use Rattle.sqrt.specs.Steps.{Finds}
-use Rattle.sqrt.proofs.Settling.{product_fits}
 use Rattle.sqrt.proofs.RootBits.{doubled, twice}
 use Rattle.sqrt.proofs.significand.nearest_root.Goals as goal
 
@@ -16,11 +14,8 @@ whole digits odd =
     let m = 2 ^ 52 + digits % 2 ^ 52 in
     ap (λ (w : ℕ). nearest_root (w * 2 ^ 52)) (mod-eq_of_lt (twice m odd (omega arith))) ∙ ap nearest_root (doubled m odd)
 
-pub overflow_mul-w : goal.overflow_mul-w
-overflow_mul-w c = record { fits = product_fits 53 2 (lit≤ tt) (omega arith) (omega arith) }
+pub returns-in-Some : goal.returns-in-Some
+returns-in-Some c = subst (Finds _) c.in-Some.is c.settle_guess.ensures ∙ ap nearest_root (doubled (2 ^ 52 + _ % 2 ^ 52) _)
 
-pub returns-in-At : goal.returns-in-At
-returns-in-At c = subst (Finds _) c.in-At.is c.settle_guess.ensures ∙ ap nearest_root (doubled (2 ^ 52 + _ % 2 ^ 52) _)
-
-pub returns-in-Missed : goal.returns-in-Missed
-returns-in-Missed c = c.by_digits.ensures ∙ whole _ _
+pub returns-in-None : goal.returns-in-None
+returns-in-None c = c.by_digits.ensures ∙ whole _ _
