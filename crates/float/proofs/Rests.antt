@@ -1,9 +1,14 @@
 -- The remainder of two finite values, counted in quanta of 2^-1074: it has the sign of the first, and its size is what is left of the one number of quanta divided by the other.
 use Rattle.std.specs.Prelude.{◌≡◌, ◌⊎◌, ℕ, zero, suc, ◌+◌, ◌-◌, ◌*◌, ◌/◌, ◌%◌, ◌^◌, ◌≤◌, ◌<◌, Bool, true, false, not, cond, T, ℤ, leb, ltb, Float}
-use Rattle.std.proofs.Common.{refl, sym, ap, subst, ◌∙◌, arith, add-one, zero-add, mul-one, ltb→lt, nltb→le, leb→le, inl, inr, lt_irrefl, lt_trans, zero-lt-suc, zero-le, zero-mul, lt_of_le_of_lt, mul-div_cancel, mul-pos, mul_assoc, mul_comm, mul_right_comm, mod-lt, mod-eq_of_lt, pow_pos, pow-add}
+use Rattle.std.proofs.Common.{min, le_trans, lt_of_lt_of_le, lt_of_not-le, not-le_of_lt, le_of_eq, refl, sym, ap, subst, ◌∙◌, arith, add-one, zero-add, mul-one, ltb→lt, nltb→le, leb→le, inl, inr, lt_irrefl, lt_trans, zero-lt-suc, zero-le, zero-mul, lt_of_le_of_lt, mul-div_cancel, mul-pos, mul_assoc, mul_comm, mul_right_comm, mod-lt, mod-eq_of_lt, pow_pos, pow-add}
 use Rattle.std.proofs.Math.Arith.{mod-mul}
-use Rattle.std.proofs.Math.Nat.{mul-mod_left, mod-eq-sub-mod, pow-suc, pow-succ', eq_of_mul-eq-mul_right}
+use Rattle.std.proofs.Math.Nat.{mul-mod_left, mod-eq-sub-mod, pow-suc, eq_of_mul-eq-mul_right}
 use Rattle.std.proofs.lemmas.Nat.{mul-mod_first}
+use Rattle.std.proofs.Math.Nat.{mul-le-mul_right, mul-lt-mul_of_pos_right}
+use Rattle.std.proofs.Math.Pow.{pow_mono}
+use Rattle.std.specs.Int.Count.{count_leading_zeros}
+use Rattle.std.proofs.lemmas.Nat.{leading_top}
+use Rattle.std.proofs.lemmas.Bool.{cases_lt}
 use borrow.Author.Tests.{le-leb, lt-leb, ne_eqb}
 use Rattle.std.proofs.Math.Dec.{nleb→lt}
 use Rattle.std.specs.Float.{nan, inf, fin, binary64}
@@ -35,11 +40,38 @@ doubled_above m i n r e l h =
     let rest : r * 2 - n < n = omega arith in
     sym (doubled m i n ∙ ap (λ x. x * 2 % n) (sym e) ∙ mod-eq-sub-mod h ∙ mod-eq_of_lt rest)
 
-pub moved_up : (m e : ℕ) → 0 < e → m * 2 * 2 ^ (e - 1) ≡ m * 2 ^ e
-moved_up m zero h = absurd (lt_irrefl 0 h)
-moved_up m (suc e) h =
-    let before : suc e - 1 ≡ e = omega arith in
-    rw (before, pow-succ' 2 e) (mul_assoc m 2 (2 ^ e))
+-- ---- digits moved up by some places, as far as the exponent allows, at most until there are 53
+pub record Placed (m e i : ℕ) : Type 0 where
+  pub moved : m * 2 ^ i % 2 ^ 64 ≡ m * 2 ^ i
+  pub few : m * 2 ^ i < 2 ^ 53
+  pub leading : (e - i ≡ 0) ⊎ (2 ^ 52 ≤ m * 2 ^ i)
+  pub same : m * 2 ^ i * 2 ^ (e - i) ≡ m * 2 ^ e
+
+few_digits : (m j i : ℕ) → m < 2 ^ suc j → j + i ≤ 52 → m * 2 ^ i < 2 ^ 53
+few_digits m j i h l = lt_of_lt_of_le (mul-lt-mul_of_pos_right h (pow_pos i)) (le_trans (le_of_eq (sym (pow-add 2 (suc j) i))) (pow_mono {i = suc j + i} {j = 53} (omega arith)))
+
+many_digits : (m j i : ℕ) → 2 ^ j ≤ m → 52 ≤ j + i → 2 ^ 52 ≤ m * 2 ^ i
+many_digits m j i h l = le_trans (pow_mono l) (le_trans (le_of_eq (pow-add 2 j i)) (mul-le-mul_right (2 ^ i) h))
+
+top_digit : (m : ℕ) → 0 < m → m < 2 ^ 53 → (j : ℕ) × (count_leading_zeros 64 m + suc j ≡ 64) × (2 ^ j ≤ m) × (m < 2 ^ suc j) × (j < 53)
+top_digit m z h =
+    let t = leading_top 64 m z (omega arith) in
+    (t.0, t.1, t.2, t.3, lt_of_not-le (λ (n : 53 ≤ t.0). not-le_of_lt h (le_trans (pow_mono n) t.2)))
+
+pub places_fit : (m : ℕ) → 0 < m → m < 2 ^ 53 → 11 ≤ count_leading_zeros 64 m
+places_fit m z h = let t = top_digit m z h in omega arith
+
+pub placed : (m e i n : ℕ) → 0 < m → m < 2 ^ 53 → n ≡ count_leading_zeros 64 m → i ≡ min e (n - 11) → Placed m e i
+placed m e i n z h c k =
+    let t = top_digit m z h in
+    let few = few_digits m t.0 i t.3 (omega arith) in
+    let split : e ≡ i + (e - i) = omega arith in
+    record {
+      moved = mod-eq_of_lt (omega arith);
+      few = few;
+      leading = elim (cases_lt i e) [ inl l ↦ inr (many_digits m t.0 i t.2 (omega arith)) | inr l ↦ inl (omega arith) ];
+      same = mul_assoc m (2 ^ i) (2 ^ (e - i)) ∙ ap (λ x. m * x) (sym (pow-add 2 i (e - i))) ∙ ap (λ x. m * 2 ^ x) (sym split);
+    }
 
 -- ---- the magnitude of a pattern by its digits and its exponent
 

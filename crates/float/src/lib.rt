@@ -9,14 +9,15 @@ ghost use Rattle.float.specs.Order.{Number};
 ghost use Rattle.float.specs.Rules as Rules;
 ghost use Rattle.float.specs.TotalOrder as TotalOrder;
 
-// The smaller of the two. Of two equal zeros it is the left one, of a NaN and a number the number.
+// The smaller of the two. Of two equal zeros it is the left one, of a NaN and a number the number. (`f64::min` leaves
+// open which of two equal zeros it gives.)
 pub fn min(a: f64, b: f64) -> f64
     ensures { result ≡ Rules.min a b }
 {
     if b < a {
         return b;
     }
-    if a == a { a } else { b }
+    if a.is_nan() { b } else { a }
 }
 
 // The larger of the two, with the same choices.
@@ -26,7 +27,7 @@ pub fn max(a: f64, b: f64) -> f64
     if a < b {
         return b;
     }
-    if a != a { b } else { a }
+    if a.is_nan() { b } else { a }
 }
 
 // `min` of a left side that is no NaN: one comparison.
@@ -49,13 +50,11 @@ pub fn higher(a: f64, b: f64) -> f64
 pub fn abs(x: f64) -> f64
     ensures { result ≡ Rules.abs x }
 {
-    if x != x {
-        return x;
-    }
-    f64::from_bits(f64::to_bits(x) % 0x8000_0000_0000_0000)
+    x.abs()
 }
 
-// `lo` where `x` is below it, then `hi` where that is above it. A NaN stays a NaN.
+// `lo` where `x` is below it, then `hi` where that is above it. A NaN stays a NaN. (`f64::clamp` asks that `lo` is at
+// most `hi`.)
 pub fn clamp(x: f64, lo: f64, hi: f64) -> f64
     ensures { result ≡ Rules.clamp x lo hi }
 {
@@ -63,15 +62,14 @@ pub fn clamp(x: f64, lo: f64, hi: f64) -> f64
     if hi < y { hi } else { y }
 }
 
-// Whether `x` is neither infinite nor a NaN: for these `x - x` is a NaN, and for any other value it is zero.
+// Whether `x` is neither infinite nor a NaN.
 pub fn is_finite(x: f64) -> bool
     ensures { result ≡ Rules.is_finite x }
 {
-    let d = x - x;
-    d == d
+    x.is_finite()
 }
 
-// `a % b`, moved up by |b| where it is negative.
+// `a % b`, moved up by |b| where it is negative. (`f64::rem_euclid` calls C's `fmod`, which `remainder` is here to avoid.)
 pub fn rem_euclid(a: f64, b: f64) -> f64
     ensures { result ≡ Rules.rem_euclid a b }
 {
@@ -83,13 +81,13 @@ pub fn rem_euclid(a: f64, b: f64) -> f64
 pub fn order_key(x: f64) -> u64
     ensures { result ≡ TotalOrder.order_key x }
 {
-    if x != x {
-        return 0xFFFF_FFFF_FFFF_FFFF;
+    if x.is_nan() {
+        return u64::MAX;
     }
-    let b = f64::to_bits(x);
+    let b = x.to_bits();
     if b < 0x8000_0000_0000_0000 {
         0x8000_0000_0000_0000 + b
     } else {
-        0xFFFF_FFFF_FFFF_FFFF - b
+        u64::MAX - b
     }
 }

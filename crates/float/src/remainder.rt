@@ -31,7 +31,7 @@ fn size_of_pattern(pattern: u64) -> Size
     };
     Size {
         digits: pattern - exponent * FIELD,
-        exponent: exponent,
+        exponent,
     }
 }
 
@@ -45,13 +45,8 @@ fn pattern_of_size(digits: u64, exponent: u64) -> u64
     if digits == 0 {
         return 0;
     }
-    let mut m = digits;
-    let mut e = exponent;
-    while e > 0 && m < FIELD {
-        m *= 2;
-        e -= 1;
-    }
-    e * FIELD + m
+    let places = exponent.min(u64::from(digits.leading_zeros()) - 11);
+    (exponent - places) * FIELD + (digits << places)
 }
 
 // What is left of `m * 2^k` divided by `n`.
@@ -74,20 +69,20 @@ fn rest_of(m: u64, k: u64, n: u64) -> u64
 pub fn remainder(a: f64, b: f64) -> f64
     ensures { result ≡ rem binary64 a b }
 {
-    if a != a {
+    if a.is_nan() {
         return a;
     }
-    if b != b {
+    if b.is_nan() {
         return b;
     }
-    let bits = f64::to_bits(a);
+    let bits = a.to_bits();
     let x = bits % SIGN;
-    let y = f64::to_bits(b) % SIGN;
+    let y = b.to_bits() % SIGN;
     if x >= INFINITY {
-        return 0.0 / 0.0;
+        return f64::NAN;
     }
     if y == 0 {
-        return 0.0 / 0.0;
+        return f64::NAN;
     }
     // taken apart before the next test, so that the size of `a` is known where `a` is returned too
     let from = size_of_pattern(x);
