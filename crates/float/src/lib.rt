@@ -11,6 +11,7 @@ ghost use Rattle.float.specs.TotalOrder as TotalOrder;
 
 // The smaller of the two. Of two equal zeros it is the left one, of a NaN and a number the number. (`f64::min` leaves
 // open which of two equal zeros it gives.)
+#[tactic(auto, unfolding(crate::specs::Rules::min), using(crate::specs::Patterns::ne_self))]
 pub fn min(a: f64, b: f64) -> f64
     ensures { result ≡ Rules.min a b }
 {
@@ -21,6 +22,7 @@ pub fn min(a: f64, b: f64) -> f64
 }
 
 // The larger of the two, with the same choices.
+#[tactic(auto, unfolding(crate::specs::Rules::max), using(crate::specs::Patterns::ne_self))]
 pub fn max(a: f64, b: f64) -> f64
     ensures { result ≡ Rules.max a b }
 {
@@ -31,6 +33,7 @@ pub fn max(a: f64, b: f64) -> f64
 }
 
 // `min` of a left side that is no NaN: one comparison.
+#[tactic(auto, unfolding(crate::specs::Rules::min), using(crate::specs::Order::itself))]
 pub fn lower(a: f64, b: f64) -> f64
     requires { Number a }
     ensures { result ≡ Rules.min a b }
@@ -39,6 +42,7 @@ pub fn lower(a: f64, b: f64) -> f64
 }
 
 // `max` of a left side that is no NaN: one comparison.
+#[tactic(auto, unfolding(crate::specs::Rules::max), using(crate::specs::Order::itself))]
 pub fn higher(a: f64, b: f64) -> f64
     requires { Number a }
     ensures { result ≡ Rules.max a b }
@@ -55,6 +59,7 @@ pub fn abs(x: f64) -> f64
 
 // `lo` where `x` is below it, then `hi` where that is above it. A NaN stays a NaN. (`f64::clamp` asks that `lo` is at
 // most `hi`.)
+#[tactic(auto, unfolding(crate::specs::Rules::clamp))]
 pub fn clamp(x: f64, lo: f64, hi: f64) -> f64
     ensures { result ≡ Rules.clamp x lo hi }
 {
@@ -70,6 +75,7 @@ pub fn is_finite(x: f64) -> bool
 }
 
 // `a % b`, moved up by |b| where it is negative. (`f64::rem_euclid` calls C's `fmod`, which `remainder` is here to avoid.)
+#[tactic(auto, unfolding(crate::specs::Rules::rem_euclid))]
 pub fn rem_euclid(a: f64, b: f64) -> f64
     ensures { result ≡ Rules.rem_euclid a b }
 {
