@@ -4,11 +4,11 @@
 ghost use Rattle.std.specs.Prelude.{◌≡◌};
 ghost use Rattle.coords.specs.Angles as Angles;
 
-// A full turn, the nearest f64 to 2π.
-const TAU: f64 = 6.283185307179586;
+use std::f64::consts::TAU;
 
 // Whether the angle `a` lies within the interval from `start` to `stop`, in either order, with the
 // tolerance `eps`. An interval of a full turn or more holds every angle.
+#[tactic(auto, unfolding(crate::specs::Angles::angle_in_range))]
 pub fn angle_in_range(a: f64, start: f64, stop: f64, eps: f64) -> bool
     ensures { result ≡ Angles.angle_in_range a start stop eps }
 {
@@ -20,6 +20,7 @@ pub fn angle_in_range(a: f64, start: f64, stop: f64, eps: f64) -> bool
 }
 
 // The same for an interval that starts at `lo` and ends at `hi`.
+#[tactic(auto, unfolding(crate::specs::Angles::in_span))]
 fn in_span(a: f64, lo: f64, hi: f64, eps: f64) -> bool
     ensures { result ≡ Angles.in_span a lo hi eps }
 {
