@@ -18,10 +18,11 @@ impl Vec3 {
     pub fn new(x: f64, y: f64, z: f64) -> Vec3
         ensures { result ≡ Vectors.vec x y z }
     {
-        Vec3 { x: x, y: y, z: z }
+        Vec3 { x, y, z }
     }
 
     // The three numbers of a list from place `i` on.
+    #[tactic(auto, unfolding(crate::specs::Vectors::at))]
     pub fn at(list: &[f64], i: usize) -> Vec3
         requires { i + 2 < length list.now }
         ensures { result ≡ Vectors.at list.now i }
@@ -34,15 +35,18 @@ impl Vec3 {
     }
 
     // The component along axis 0, 1 or 2; any other number counts as 2.
+    #[tactic(auto, unfolding(crate::specs::Vectors::component))]
     pub fn component(self, axis: u64) -> f64
         ensures { result ≡ Vectors.component self axis }
     {
-        if axis == 0 {
-            return self.x;
+        match axis {
+            0 => self.x,
+            1 => self.y,
+            _ => self.z,
         }
-        if axis == 1 { self.y } else { self.z }
     }
 
+    #[tactic(auto, unfolding(crate::specs::Vectors::add))]
     pub fn add(self, o: Vec3) -> Vec3
         ensures { result ≡ Vectors.add self o }
     {
@@ -53,6 +57,7 @@ impl Vec3 {
         }
     }
 
+    #[tactic(auto, unfolding(crate::specs::Vectors::sub))]
     pub fn sub(self, o: Vec3) -> Vec3
         ensures { result ≡ Vectors.sub self o }
     {
@@ -63,6 +68,7 @@ impl Vec3 {
         }
     }
 
+    #[tactic(auto, unfolding(crate::specs::Vectors::mul))]
     pub fn mul(self, s: f64) -> Vec3
         ensures { result ≡ Vectors.mul self s }
     {
@@ -73,12 +79,14 @@ impl Vec3 {
         }
     }
 
+    #[tactic(auto, unfolding(crate::specs::Vectors::dot))]
     pub fn dot(self, o: Vec3) -> f64
         ensures { result ≡ Vectors.dot self o }
     {
         self.x * o.x + self.y * o.y + self.z * o.z
     }
 
+    #[tactic(auto, unfolding(crate::specs::Vectors::cross))]
     pub fn cross(self, o: Vec3) -> Vec3
         ensures { result ≡ Vectors.cross self o }
     {
@@ -89,18 +97,21 @@ impl Vec3 {
         }
     }
 
+    #[tactic(auto, unfolding(crate::specs::Vectors::norm_sq))]
     pub fn norm_sq(self) -> f64
         ensures { result ≡ Vectors.norm_sq self }
     {
         self.dot(self)
     }
 
+    #[tactic(auto, unfolding(crate::specs::Vectors::norm))]
     pub fn norm(self) -> f64
         ensures { result ≡ Vectors.norm self }
     {
         sqrt::root(self.norm_sq())
     }
 
+    #[tactic(auto, unfolding(crate::specs::Vectors::min))]
     pub fn min(self, o: Vec3) -> Vec3
         ensures { result ≡ Vectors.min self o }
     {
@@ -111,6 +122,7 @@ impl Vec3 {
         }
     }
 
+    #[tactic(auto, unfolding(crate::specs::Vectors::max))]
     pub fn max(self, o: Vec3) -> Vec3
         ensures { result ≡ Vectors.max self o }
     {
@@ -121,6 +133,7 @@ impl Vec3 {
         }
     }
 
+    #[tactic(auto, unfolding(crate::specs::Vectors::is_finite))]
     pub fn is_finite(self) -> bool
         ensures { result ≡ Vectors.is_finite self }
     {
@@ -140,21 +153,14 @@ impl BoundingBox {
     pub fn empty() -> BoundingBox
         ensures { result ≡ Boxes.empty }
     {
-        let inf = f64::from_bits(0x7FF0_0000_0000_0000);
+        let inf = f64::INFINITY;
         BoundingBox {
-            min: Vec3 {
-                x: inf,
-                y: inf,
-                z: inf,
-            },
-            max: Vec3 {
-                x: -inf,
-                y: -inf,
-                z: -inf,
-            },
+            min: Vec3::new(inf, inf, inf),
+            max: Vec3::new(-inf, -inf, -inf),
         }
     }
 
+    #[tactic(auto, unfolding(crate::specs::Boxes::from_corners))]
     pub fn from_corners(a: Vec3, b: Vec3) -> BoundingBox
         ensures { result ≡ Boxes.from_corners a b }
     {
@@ -164,12 +170,14 @@ impl BoundingBox {
         }
     }
 
+    #[tactic(auto, unfolding(crate::specs::Boxes::is_empty))]
     pub fn is_empty(self) -> bool
         ensures { result ≡ Boxes.is_empty self }
     {
         !(self.min.x <= self.max.x) | !(self.min.y <= self.max.y) | !(self.min.z <= self.max.z)
     }
 
+    #[tactic(auto, unfolding(crate::specs::Boxes::include))]
     pub fn include(self, p: Vec3) -> BoundingBox
         ensures { result ≡ Boxes.include self p }
     {
@@ -179,6 +187,7 @@ impl BoundingBox {
         }
     }
 
+    #[tactic(auto, unfolding(crate::specs::Boxes::union))]
     pub fn union(self, o: BoundingBox) -> BoundingBox
         ensures { result ≡ Boxes.union self o }
     {
@@ -192,6 +201,7 @@ impl BoundingBox {
     }
 
     // The box around two; unlike `union` it takes no box for empty.
+    #[tactic(auto, unfolding(crate::specs::Boxes::join))]
     pub fn join(self, o: BoundingBox) -> BoundingBox
         ensures { result ≡ Boxes.join self o }
     {
@@ -202,6 +212,7 @@ impl BoundingBox {
     }
 
     // Whether the box encloses box `o`, compared as numbers.
+    #[tactic(auto, unfolding(crate::specs::Boxes::encloses))]
     pub fn encloses(self, o: BoundingBox) -> bool
         ensures { result ≡ Boxes.encloses self o }
     {
@@ -213,6 +224,7 @@ impl BoundingBox {
             & (o.max.z <= self.max.z)
     }
 
+    #[tactic(auto, unfolding(crate::specs::Boxes::expanded))]
     pub fn expanded(self, d: f64) -> BoundingBox
         ensures { result ≡ Boxes.expanded self d }
     {
@@ -223,6 +235,7 @@ impl BoundingBox {
         }
     }
 
+    #[tactic(auto, unfolding(crate::specs::Boxes::contains))]
     pub fn contains(self, p: Vec3) -> bool
         ensures { result ≡ Boxes.contains self p }
     {
@@ -231,12 +244,14 @@ impl BoundingBox {
             & ((p.z >= self.min.z) & (p.z <= self.max.z))
     }
 
+    #[tactic(auto, unfolding(crate::specs::Boxes::size))]
     pub fn size(self) -> Vec3
         ensures { result ≡ Boxes.size self }
     {
         self.max.sub(self.min)
     }
 
+    #[tactic(auto, unfolding(crate::specs::Boxes::center))]
     pub fn center(self) -> Vec3
         ensures { result ≡ Boxes.center self }
     {
