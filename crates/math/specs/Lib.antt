@@ -3,3 +3,4 @@ pub mod Vectors
 pub mod Boxes
 pub mod Enclosing
 pub mod Alike
+pub mod Chunks
