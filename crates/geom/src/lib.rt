@@ -2,7 +2,7 @@
 // from segments, and the even-odd test of a polygon. The definitions are in specs/.
 #![tactic(auto)]
 
-ghost use Rattle.std.specs.Prelude.{◌≡◌, ◌+◌, ◌*◌, ◌<◌, length};
+ghost use Rattle.std.specs.Prelude.{◌≡◌};
 ghost use Rattle.geom.specs.Tolerance as Tolerance;
 ghost use Rattle.geom.specs.Segments as Segments;
 ghost use Rattle.geom.specs.Polygons as Polygons;
@@ -20,6 +20,7 @@ pub struct Point2 {
 }
 
 // The tolerance of two numbers: that of the larger magnitude.
+#[tactic(auto, unfolding(crate::specs::Tolerance::tol))]
 pub fn tol(a: f64, b: f64) -> f64
     ensures { result ≡ Tolerance.tol a b }
 {
@@ -27,6 +28,7 @@ pub fn tol(a: f64, b: f64) -> f64
 }
 
 // The relative tolerance times a magnitude, which counts as 1e-300 if it is smaller.
+#[tactic(auto, unfolding(crate::specs::Tolerance::tol_of))]
 pub fn tol_of(magnitude: f64) -> f64
     ensures { result ≡ Tolerance.tol_of magnitude }
 {
@@ -34,6 +36,7 @@ pub fn tol_of(magnitude: f64) -> f64
 }
 
 // Whether `v` lies between `a` and `b`, in either order, with a small relative tolerance.
+#[tactic(auto, unfolding(crate::specs::Tolerance::in_range))]
 pub fn in_range(v: f64, a: f64, b: f64) -> bool
     ensures { result ≡ Tolerance.in_range v a b }
 {
@@ -44,6 +47,7 @@ pub fn in_range(v: f64, a: f64, b: f64) -> bool
     }
 }
 
+#[tactic(auto, unfolding(crate::specs::Tolerance::between))]
 fn between(v: f64, lo: f64, hi: f64) -> bool
     ensures { result ≡ Tolerance.between v lo hi }
 {
@@ -52,6 +56,7 @@ fn between(v: f64, lo: f64, hi: f64) -> bool
 }
 
 // Whether the angle lies between the two, turned by whole turns.
+#[tactic(auto, unfolding(crate::specs::Tolerance::angle_ok))]
 pub fn angle_ok(a: f64, start: f64, stop: f64) -> bool
     ensures { result ≡ Tolerance.angle_ok a start stop }
 {
@@ -59,6 +64,7 @@ pub fn angle_ok(a: f64, start: f64, stop: f64) -> bool
 }
 
 // `hypot` as document 01 has it: each step rounded, nothing scaled.
+#[tactic(auto, unfolding(crate::specs::Segments::hypot))]
 fn hypot(a: f64, b: f64) -> f64
     ensures { result ≡ Segments.hypot a b }
 {
@@ -67,6 +73,7 @@ fn hypot(a: f64, b: f64) -> f64
 
 // Where on a segment the nearest point lies, from 0 to 1: `along` is the dot product of the segment
 // with the way from its start, `l2` the squared length.
+#[tactic(auto, unfolding(crate::specs::Segments::parameter))]
 fn parameter(along: f64, l2: f64) -> f64
     ensures { result ≡ Segments.parameter along l2 }
 {
@@ -78,6 +85,7 @@ fn parameter(along: f64, l2: f64) -> f64
 }
 
 // The distance from `p` to the segment from `a` to `b` in a plane.
+#[tactic(auto, unfolding(crate::specs::Segments::dist_point_segment2d))]
 pub fn dist_point_segment_2d(p: Point2, a: Point2, b: Point2) -> f64
     ensures { result ≡ Segments.dist_point_segment2d p a b }
 {
@@ -88,6 +96,7 @@ pub fn dist_point_segment_2d(p: Point2, a: Point2, b: Point2) -> f64
 }
 
 // The distance from `p` to the segment from `a` to `b`.
+#[tactic(auto, unfolding(crate::specs::Segments::dist_point_segment))]
 pub fn dist_point_segment(p: Vec3, a: Vec3, b: Vec3) -> f64
     ensures { result ≡ Segments.dist_point_segment p a b }
 {
@@ -100,16 +109,11 @@ pub fn dist_point_segment(p: Vec3, a: Vec3, b: Vec3) -> f64
 pub fn scale(list: &[f64]) -> f64
     ensures { result ≡ Tolerance.scale list.now }
 {
-    let mut m = 0.0;
-    let mut i = 0;
-    while i < list.len() {
-        m = float::max(m, float::abs(list[i]));
-        i += 1;
-    }
-    m
+    list.iter().fold(0.0, |m, x| float::max(m, float::abs(*x)))
 }
 
 // Whether the ray from `p` along u crosses the edge from vertex `i` to vertex `j`.
+#[tactic(auto, unfolding(crate::specs::Polygons::crosses))]
 fn crosses(p: Point2, i: Point2, j: Point2) -> bool
     ensures { result ≡ Polygons.crosses p i j }
 {
@@ -120,37 +124,34 @@ fn crosses(p: Point2, i: Point2, j: Point2) -> bool
     }
 }
 
-// Vertex `k` of a polygon, whose list has the u and v of each vertex.
-fn vertex(poly: &[f64], k: usize) -> Point2
-    requires { 2 * k + 1 < length poly.now }
-    ensures { result ≡ Polygons.vertex poly.now k }
+// The vertex with these two numbers.
+#[tactic(auto, unfolding(crate::specs::Polygons::vertex))]
+fn vertex(pair: &[f64; 2]) -> Point2
+    ensures { result ≡ Polygons.vertex pair.now 0 }
 {
-    Point2 {
-        u: poly[2 * k],
-        v: poly[2 * k + 1],
-    }
+    let [u, v] = *pair;
+    Point2 { u, v }
 }
 
-// Whether `p` lies in the polygon, by the even-odd rule; its edges count as inside.
+// Whether `p` lies in the polygon, whose list has the u and v of each vertex, by the even-odd rule; its edges count as
+// inside.
 pub fn point_in_polygon(p: Point2, poly: &[f64]) -> bool
     ensures { result ≡ Polygons.point_in_polygon p poly.now }
 {
-    let n = poly.len() / 2;
-    if n == 0 {
+    let (vertices, _) = poly.as_chunks::<2>();
+    let Some(last) = vertices.last() else {
         return false;
-    }
+    };
     let eps = tol_of(scale(poly));
     let mut inside = false;
-    let mut j = vertex(poly, n - 1);
-    let mut k = 0;
-    while k < n {
-        let i = vertex(poly, k);
+    let mut j = vertex(last);
+    for pair in vertices {
+        let i = vertex(pair);
         if dist_point_segment_2d(p, i, j) <= eps {
             return true;
         }
         inside = inside != crosses(p, i, j);
         j = i;
-        k += 1;
     }
     inside
 }

@@ -1,27 +1,20 @@
-use Prim.Native.Nat.{ℕ}
-use native.Mathlib.Omega.{arith}
-use mathlib.Core.Path.{sym, ◌≡◌, refl, ap, ◌∙◌}
-use mathlib.Core.List.{[]}
-use lib.ListN.{length, drop}
-use lib.Seq.{drop-length}
-use borrow.Author.Rules.{rules}
-use Rattle.geom.specs.Tolerance.{scale, scale_from, scale_from_next}
+-- `scale` meets its contract: a fold over the list that takes in each magnitude is what the definition says.
+use Rattle.std.specs.Prelude.{◌≡◌, List, [], ◌∷◌, Float, fold, refl}
+use Rattle.std.proofs.Common.{◌∙◌, rules, tests}
+use Rattle.std.proofs.lemmas.Iterator.{YieldsList-from_slice}
+use Rattle.std.proofs.lemmas.Iterator.Consumers.{fold_from_yields_List}
+use Rattle.float.specs.Arithmetic.{zero}
+use Rattle.float.specs.Rules.{max, abs}
+use Rattle.geom.specs.Tolerance.{scale, scale_from}
 use Rattle.geom.proofs.scale.Goals as goal
 
-pub loop-i-init : goal.loop-i-init
-unfolding scale
-loop-i-init c = (omega arith, refl)
-
-pub loop-i-preserved : goal.loop-i-preserved
-loop-i-preserved c =
-    let at = c.loop-i.i in
-    let next = scale_from_next c.loop-i.m c.args.list.now at (omega arith) in
-    (search rules, rw (c.max-m.ensures, c.abs.ensures) (sym next ∙ c.loop-i.invariant.1))
+as_fold : (m : Float) (l : List Float) → fold (λ m x. max m (abs x)) m l ≡ scale_from m l
+unfolding scale_from
+as_fold m [] = refl
+as_fold m (x ∷ rest) = as_fold (max m (abs x)) rest
 
 pub returns : goal.returns
-unfolding scale_from
+unfolding scale
 returns c =
-    let list = c.args.list.now in
-    let whole : c.loop-i.i ≡ length list = omega arith in
-    let rest : drop c.loop-i.i list ≡ [] = ap (λ (n : ℕ). drop n list) whole ∙ drop-length list in
-    rw rest at c.loop-i.invariant.1
+    fold_from_yields_List _ (λ m x. max m (abs x)) zero c.fold.result c.fold.ensures.ran (YieldsList-from_slice c.args.list.now (cc)) (λ a x b q k. search (rules, tests))
+    ∙ as_fold zero c.args.list.now
