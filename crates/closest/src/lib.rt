@@ -19,6 +19,7 @@ struct Products {
 }
 
 // Those products.
+#[tactic(auto, unfolding(crate::specs::Closest::products_of))]
 fn products_of(p: Vec3, a: Vec3, b: Vec3, c: Vec3) -> Products
     ensures { result ≡ Closest.products_of p a b c }
 {
@@ -38,6 +39,7 @@ fn products_of(p: Vec3, a: Vec3, b: Vec3, c: Vec3) -> Products
 }
 
 // The point at t times the way d from a.
+#[tactic(auto, unfolding(crate::specs::Closest::along))]
 fn along(a: Vec3, d: Vec3, t: f64) -> Vec3
     ensures { result ≡ Closest.along a d t }
 {
@@ -45,6 +47,7 @@ fn along(a: Vec3, d: Vec3, t: f64) -> Vec3
 }
 
 // The nearest point where it lies inside the triangle.
+#[tactic(auto, unfolding(crate::specs::Closest::inner, crate::specs::Closest::va, crate::specs::Closest::vb, crate::specs::Closest::vc))]
 fn inner(a: Vec3, b: Vec3, c: Vec3, d: Products) -> Vec3
     ensures { result ≡ Closest.inner a b c d }
 {
@@ -59,6 +62,7 @@ fn inner(a: Vec3, b: Vec3, c: Vec3, d: Products) -> Vec3
 }
 
 // The nearest point: a corner, on an edge, or inside, the first whose test holds.
+#[tactic(auto, unfolding(crate::specs::Closest::nearest, crate::specs::Closest::va, crate::specs::Closest::vb, crate::specs::Closest::vc))]
 fn nearest(a: Vec3, b: Vec3, c: Vec3, d: Products) -> Vec3
     ensures { result ≡ Closest.nearest a b c d }
 {
@@ -89,6 +93,7 @@ fn nearest(a: Vec3, b: Vec3, c: Vec3, d: Products) -> Vec3
 }
 
 // The point of the triangle a, b, c that is nearest to p.
+#[tactic(auto, unfolding(crate::specs::Closest::closest_on_triangle))]
 pub fn closest_on_triangle(p: Vec3, a: Vec3, b: Vec3, c: Vec3) -> Vec3
     ensures { result ≡ Closest.closest_on_triangle p a b c }
 {

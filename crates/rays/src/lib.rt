@@ -29,6 +29,7 @@ pub enum RayHit {
 }
 
 // Where the ray enters a slab: the planes are at `lo` and `hi`, all on one axis.
+#[tactic(auto, unfolding(crate::specs::Slabs::entry))]
 fn entry(o: f64, inv: f64, lo: f64, hi: f64) -> f64
     ensures { result ≡ Slabs.entry o inv lo hi }
 {
@@ -37,6 +38,7 @@ fn entry(o: f64, inv: f64, lo: f64, hi: f64) -> f64
 }
 
 // Where the ray leaves a slab, negated.
+#[tactic(auto, unfolding(crate::specs::Slabs::minus_exit))]
 fn minus_exit(o: f64, inv: f64, lo: f64, hi: f64) -> f64
     ensures { result ≡ Slabs.minus_exit o inv lo hi }
 {
@@ -71,6 +73,7 @@ pub fn ray_hits_box(o: Vec3, inv: Vec3, b: BoundingBox) -> bool
 }
 
 // Whether the triangle with edges e1 and e2 has no area, or the ray is parallel to it.
+#[tactic(auto, unfolding(crate::specs::Rays::parallel))]
 fn parallel(det: f64, e1: Vec3, e2: Vec3) -> bool
     ensures { result ≡ Rays.parallel det e1 e2 }
 {
