@@ -83,6 +83,7 @@ fn parallel(det: f64, e1: Vec3, e2: Vec3) -> bool
 
 // The ray from `o` in direction `d` and the triangle a, b, c. Of csx's tests that lead to a miss the first takes two
 // roots; here it comes after the others.
+#[tactic(auto, unfolding(crate::specs::Rays::ray_triangle, crate::specs::Rays::hit_at), using(crate::specs::RayLaws::miss_anyway))]
 pub fn ray_triangle(o: Vec3, d: Vec3, a: Vec3, b: Vec3, c: Vec3) -> RayHit
     ensures { result ≡ Rays.ray_triangle o d a b c }
 {
