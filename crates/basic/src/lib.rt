@@ -9,6 +9,7 @@ ghost use Rattle.basic.specs.Round as Round;
 use math::Vec3;
 
 // Whether `p` lies in the box with opposite corners `a` and `b`; its faces count as inside.
+#[tactic(auto, unfolding(crate::specs::Boxes::inside_box))]
 pub fn inside_box(a: Vec3, b: Vec3, p: Vec3) -> bool
     ensures { result ≡ Boxes.inside_box a b p }
 {
@@ -23,6 +24,7 @@ pub fn inside_box(a: Vec3, b: Vec3, p: Vec3) -> bool
 
 // The same in cylindrical coordinates, x the radius, y the angle, z the height: the radius is compared
 // as given, the angle modulo full turns. On the axis every angle is valid.
+#[tactic(auto, unfolding(crate::specs::Boxes::inside_cylindrical_box))]
 pub fn inside_cylindrical_box(a: Vec3, b: Vec3, p: Vec3) -> bool
     ensures { result ≡ Boxes.inside_cylindrical_box a b p }
 {
@@ -42,18 +44,14 @@ pub fn inside_cylindrical_box(a: Vec3, b: Vec3, p: Vec3) -> bool
 pub fn inside_multi_box(boxes: &[f64], p: Vec3) -> bool
     ensures { result ≡ Boxes.inside_multi_box boxes.now p }
 {
-    let n = boxes.len() / 6;
-    let mut k = 0;
-    while k < n {
-        if inside_box(Vec3::at(boxes, 6 * k), Vec3::at(boxes, 6 * k + 3), p) {
-            return true;
-        }
-        k += 1;
-    }
-    false
+    let (boxes, _) = boxes.as_chunks::<6>();
+    boxes
+        .iter()
+        .any(|b| inside_box(Vec3::at(b, 0), Vec3::at(b, 3), p))
 }
 
 // Whether `p` lies in the sphere.
+#[tactic(auto, unfolding(crate::specs::Round::inside_sphere))]
 pub fn inside_sphere(center: Vec3, radius: f64, p: Vec3) -> bool
     ensures { result ≡ Round.inside_sphere center radius p }
 {
@@ -61,6 +59,7 @@ pub fn inside_sphere(center: Vec3, radius: f64, p: Vec3) -> bool
 }
 
 // Whether the distance `d` is within half the width of the radius; the sign of the width is ignored.
+#[tactic(auto, unfolding(crate::specs::Round::in_shell))]
 fn in_shell(d: f64, radius: f64, width: f64) -> bool
     ensures { result ≡ Round.in_shell d radius width }
 {
@@ -69,38 +68,42 @@ fn in_shell(d: f64, radius: f64, width: f64) -> bool
 }
 
 // Whether `p` lies in the spherical shell.
+#[tactic(auto, unfolding(crate::specs::Round::inside_spherical_shell))]
 pub fn inside_spherical_shell(center: Vec3, radius: f64, width: f64, p: Vec3) -> bool
     ensures { result ≡ Round.inside_spherical_shell center radius width p }
 {
     in_shell(p.sub(center).norm(), radius, width)
 }
 
-// Where a point lies along an axis.
+// Where a point lies along an axis: `t` is 0 at the start and 1 at the stop; `d` is the distance from the
+// axis, `len` its length.
 #[derive(Clone, Copy)]
-pub enum Along {
-    // The axis has no length.
-    NoAxis,
-    // `t` is 0 at the start and 1 at the stop; `d` is the distance from the axis, `len` its length.
-    At { t: f64, d: f64, len: f64 },
+pub struct Along {
+    pub t: f64,
+    pub d: f64,
+    pub len: f64,
 }
 
-fn axial(a: Vec3, b: Vec3, p: Vec3) -> Along
+// Where `p` lies along the axis from `a` to `b`, if it has a length.
+#[tactic(auto, unfolding(crate::specs::Round::axial))]
+fn axial(a: Vec3, b: Vec3, p: Vec3) -> Option<Along>
     ensures { result ≡ Round.axial a b p }
 {
     let axis = b.sub(a);
     let l2 = axis.norm_sq();
     if l2 == 0.0 {
-        return Along::NoAxis;
+        return None;
     }
     let t = p.sub(a).dot(axis) / l2;
-    Along::At {
-        t: t,
+    Some(Along {
+        t,
         d: p.sub(a.add(axis.mul(t))).norm(),
         len: sqrt::root(l2),
-    }
+    })
 }
 
 // Whether `t` lies between the two ends of an axis of this length.
+#[tactic(auto, unfolding(crate::specs::Round::between_ends))]
 fn between_ends(t: f64, len: f64) -> bool
     ensures { result ≡ Round.between_ends t len }
 {
@@ -109,21 +112,23 @@ fn between_ends(t: f64, len: f64) -> bool
 }
 
 // Whether `p` lies in the solid cylinder around the axis from `start` to `stop`.
+#[tactic(auto, unfolding(crate::specs::Round::inside_cylinder, crate::specs::Round::in_cylinder))]
 pub fn inside_cylinder(start: Vec3, stop: Vec3, radius: f64, p: Vec3) -> bool
     ensures { result ≡ Round.inside_cylinder start stop radius p }
 {
     match axial(start, stop, p) {
-        Along::At { t, d, len } => { between_ends(t, len) & (d <= radius + geom::tol(radius, 0.0)) }
-        Along::NoAxis => false,
+        Some(Along { t, d, len }) => between_ends(t, len) & (d <= radius + geom::tol(radius, 0.0)),
+        None => false,
     }
 }
 
 // Whether `p` lies in the tube around the axis from `start` to `stop`; its ends are open.
+#[tactic(auto, unfolding(crate::specs::Round::inside_cylindrical_shell, crate::specs::Round::in_tube))]
 pub fn inside_cylindrical_shell(start: Vec3, stop: Vec3, radius: f64, width: f64, p: Vec3) -> bool
     ensures { result ≡ Round.inside_cylindrical_shell start stop radius width p }
 {
     match axial(start, stop, p) {
-        Along::At { t, d, len } => between_ends(t, len) & in_shell(d, radius, width),
-        Along::NoAxis => false,
+        Some(Along { t, d, len }) => between_ends(t, len) & in_shell(d, radius, width),
+        None => false,
     }
 }

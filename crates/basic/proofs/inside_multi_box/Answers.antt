@@ -1,29 +1,29 @@
-use Prim.Native.Nat.{◌+◌, ◌*◌}
-use native.Mathlib.Omega.{arith}
-use mathlib.Core.Path.{◌≡◌, refl, sym, ◌∙◌}
-use mathlib.Core.Bool.{true, false}
-use borrow.Author.Rules.{rules}
-use Rattle.math.specs.Vectors.{at}
-use Rattle.basic.specs.Boxes.{inside_box, inside_multi_box, in_some_box_next, in_some_box_end}
+-- `inside_multi_box` meets its contract: each chunk holds the corners of one box, in the list's order.
+use Rattle.std.specs.Prelude.{◌≡◌, refl, ℕ, zero, suc, ◌+◌, ◌/◌, ◌<◌, List, length, take, drop, Float}
+use Rattle.std.proofs.Common.{arith, rules, tests, sym, ◌∙◌, length-drop}
+use Rattle.std.proofs.lemmas.List.{get_or-take}
+use Rattle.std.proofs.lemmas.Iterator.{YieldsList-from_slice}
+use Rattle.std.proofs.lemmas.Iterator.Search.{any_from_yields_List}
+use Rattle.std.specs.List.{list_any}
+use Rattle.std.specs.Simd.{first_chunks}
+use Rattle.std.specs.Float.{nan}
+use Rattle.math.specs.declared.Vec3.{Vec3}
+use Rattle.math.specs.Vectors.{at, points}
+use Rattle.basic.specs.Boxes.{inside_box, in_some_box, inside_multi_box, in_some_box_next, in_some_box_end}
 use Rattle.basic.proofs.inside_multi_box.Goals as goal
 
-pub loop-k-init : goal.loop-k-init
-unfolding inside_multi_box
-loop-k-init c = (omega arith, refl)
+-- a point within the first n numbers
+at_take : (n i : ℕ) (l : List Float) → i + 2 < n → at (take n l) i ≡ at l i
+unfolding at
+at_take n i l h = rw (get_or-take n l i nan (omega arith), get_or-take n l (i + 1) nan (omega arith), get_or-take n l (i + 2) nan h)
 
-pub returns-then-inside_box : goal.returns-then-inside_box
-returns-then-inside_box c =
-    let boxes = c.args.boxes.now in
-    let k = c.loop-k.k in
-    let found : inside_box (at boxes (6 * k)) (at boxes (6 * k + 3)) c.args.p ≡ true = rw (← c.at.ensures, ← c.at-in-loop-k.ensures, ← c.inside_box.ensures) c.if-inside_box.true in
-    sym (in_some_box_next boxes k c.args.p (omega arith) ∙ rw found) ∙ c.loop-k.invariant.1
-
-pub loop-k-preserved : goal.loop-k-preserved
-loop-k-preserved c =
-    let boxes = c.args.boxes.now in
-    let k = c.loop-k.k in
-    let none : inside_box (at boxes (6 * k)) (at boxes (6 * k + 3)) c.args.p ≡ false = rw (← c.at.ensures, ← c.at-in-loop-k.ensures, ← c.inside_box.ensures) c.if-inside_box.false in
-    (search rules, rw none at (sym (in_some_box_next boxes k c.args.p (omega arith))) ∙ c.loop-k.invariant.1)
+some_chunk : (n : ℕ) (l : List Float) (p : Vec3) → n ≡ length l / 6 → list_any (λ b. inside_box (at b 0) (at b 3) p) (first_chunks 6 n l) ≡ in_some_box (points l) p
+some_chunk zero l p e = sym (in_some_box_end l 0 p (omega arith))
+some_chunk (suc n) l p e =
+    rw (at_take 6 0 l (omega arith), at_take 6 3 l (omega arith), some_chunk n (drop 6 l) p (rw length-drop (omega arith))) (sym (in_some_box_next l 0 p (omega arith)))
 
 pub returns : goal.returns
-returns c = sym (in_some_box_end c.args.boxes.now c.loop-k.k _ (omega arith)) ∙ c.loop-k.invariant.1
+unfolding inside_multi_box
+returns c =
+    any_from_yields_List (λ b. inside_box (at b 0) (at b 3) c.args.p) _ _ c.any.result c.any.ensures.ran (YieldsList-from_slice c.as_chunks.result.0.now (cc)) (λ x b q k. search (rules, tests))
+    ∙ rw c.as_chunks.ensures.front (some_chunk (length c.args.boxes.now / 6) c.args.boxes.now c.args.p refl)

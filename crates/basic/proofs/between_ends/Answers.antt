@@ -1,7 +1,0 @@
--- `between_ends` meets its contract: the calls promise the parts of the definition.
-use Rattle.basic.specs.Round.{between_ends}
-use Rattle.basic.proofs.between_ends.Goals as goal
-
-pub returns : goal.returns
-unfolding between_ends
-returns c = rw c.tol.ensures

@@ -1,7 +1,0 @@
--- `inside_sphere` meets its contract: the calls promise the parts of the definition.
-use Rattle.basic.specs.Round.{inside_sphere}
-use Rattle.basic.proofs.inside_sphere.Goals as goal
-
-pub returns : goal.returns
-unfolding inside_sphere
-returns c = rw (c.tol.ensures, c.norm.ensures, c.sub.ensures)
