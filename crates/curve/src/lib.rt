@@ -10,21 +10,20 @@ use math::Vec3;
 fn polyline_dist(points: &[f64], p: Vec3) -> f64
     ensures { result ≡ Polylines.polyline_dist points.now p }
 {
-    let n = points.len() / 3;
-    if n == 1 {
-        return p.sub(Vec3::at(points, 0)).norm();
+    let (points, _) = points.as_chunks::<3>();
+    if points.len() == 1 {
+        return p.sub(Vec3::at(&points[0], 0)).norm();
     }
-    let mut least = f64::from_bits(0x7FF0_0000_0000_0000);
-    let mut k = 0;
-    while k + 1 < n {
-        let d = geom::dist_point_segment(p, Vec3::at(points, 3 * k), Vec3::at(points, 3 * k + 3));
+    let mut least = f64::INFINITY;
+    for ends in points.windows(2) {
+        let d = geom::dist_point_segment(p, Vec3::at(&ends[0], 0), Vec3::at(&ends[1], 0));
         least = float::min(least, d);
-        k += 1;
     }
     least
 }
 
 // Whether `p` lies within the radius of the polyline through the points of the list.
+#[tactic(auto, unfolding(crate::specs::Polylines::inside_wire))]
 pub fn inside_wire(points: &[f64], radius: f64, p: Vec3) -> bool
     ensures { result ≡ Polylines.inside_wire points.now radius p }
 {

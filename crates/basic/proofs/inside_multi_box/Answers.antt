@@ -1,21 +1,15 @@
 -- `inside_multi_box` meets its contract: each chunk holds the corners of one box, in the list's order.
-use Rattle.std.specs.Prelude.{◌≡◌, refl, ℕ, zero, suc, ◌+◌, ◌/◌, ◌<◌, List, length, take, drop, Float}
+use Rattle.std.specs.Prelude.{◌≡◌, refl, ℕ, zero, suc, ◌/◌, List, length, drop, Float}
 use Rattle.std.proofs.Common.{arith, rules, tests, sym, ◌∙◌, length-drop}
-use Rattle.std.proofs.lemmas.List.{get_or-take}
 use Rattle.std.proofs.lemmas.Iterator.{YieldsList-from_slice}
 use Rattle.std.proofs.lemmas.Iterator.Search.{any_from_yields_List}
 use Rattle.std.specs.List.{list_any}
 use Rattle.std.specs.Simd.{first_chunks}
-use Rattle.std.specs.Float.{nan}
 use Rattle.math.specs.declared.Vec3.{Vec3}
+use Rattle.math.specs.Chunks.{at_take}
 use Rattle.math.specs.Vectors.{at, points}
 use Rattle.basic.specs.Boxes.{inside_box, in_some_box, inside_multi_box, in_some_box_next, in_some_box_end}
 use Rattle.basic.proofs.inside_multi_box.Goals as goal
-
--- a point within the first n numbers
-at_take : (n i : ℕ) (l : List Float) → i + 2 < n → at (take n l) i ≡ at l i
-unfolding at
-at_take n i l h = rw (get_or-take n l i nan (omega arith), get_or-take n l (i + 1) nan (omega arith), get_or-take n l (i + 2) nan h)
 
 some_chunk : (n : ℕ) (l : List Float) (p : Vec3) → n ≡ length l / 6 → list_any (λ b. inside_box (at b 0) (at b 3) p) (first_chunks 6 n l) ≡ in_some_box (points l) p
 some_chunk zero l p e = sym (in_some_box_end l 0 p (omega arith))

@@ -1,15 +1,13 @@
--- `polyline_dist` meets its contract. The invariant: from point k on, with the least distance so far, the segments give the polyline's
--- distance. The measure is the points that are left.
-use Prim.Native.Nat.{◌≤◌, ◌-◌, ◌*◌}
-use mathlib.Core.Path.{◌≡◌}
-use lib.ListN.{drop}
-use Rattle.math.specs.Vectors.{points}
+-- `polyline_dist` meets its contract. The invariant: with the least distance so far, the segments between the points that are left give
+-- the polyline's distance.
+use Rattle.std.specs.Prelude.{◌≡◌, map}
+use Rattle.std.specs.Slice.Iter.{windows_rest, windows_size}
+use Rattle.math.specs.Vectors.{at}
 use Rattle.curve.specs.Polylines.{segments, polyline_dist}
 use Rattle.curve.proofs.polyline_dist.Given as goal
 
-abbrev pub invariant-loop-k : goal.invariant-loop-k
-invariant-loop-k l =
-    (l.k ≤ l.n) × (segments l.p l.least (points (drop (3 * l.k) l.points)) ≡ polyline_dist l.points l.p)
-
-abbrev pub decreases-loop-k : goal.decreases-loop-k
-decreases-loop-k l = l.n - l.k
+abbrev pub invariant-loop-ends : goal.invariant-loop-ends
+invariant-loop-ends l = record {
+  two : windows_size l.ends-iterator ≡ 2;
+  left : segments l.p l.least (map (λ c. at c 0) (windows_rest l.ends-iterator)) ≡ polyline_dist l.fn.points l.p;
+}
