@@ -8,7 +8,7 @@ ghost use Rattle.poly.specs.Planes as Planes;
 use geom::Point2;
 use math::Vec3;
 
-// The two axes of a plane, each 0, 1 or 2.
+// The two axes of a plane, each 0, 1 or 2: numbers, as document 01's table of axes and the C interface have them.
 #[derive(Clone, Copy)]
 pub struct Axes {
     pub u: u64,
@@ -16,6 +16,7 @@ pub struct Axes {
 }
 
 // The axes of the plane normal to axis `n`.
+#[tactic(auto, unfolding(crate::specs::Planes::plane_axes))]
 pub fn plane_axes(n: u64) -> Axes
     ensures { result ≡ Planes.plane_axes n }
 {
@@ -27,6 +28,7 @@ pub fn plane_axes(n: u64) -> Axes
 
 // Whether `p` lies between the planes at `lo` and `hi` normal to axis `norm_dir`, and its projection
 // along that axis in the polygon.
+#[tactic(auto, unfolding(crate::specs::Planes::inside_prism))]
 fn inside_prism(norm_dir: u64, lo: f64, hi: f64, vertices: &[f64], p: Vec3) -> bool
     ensures { result ≡ Planes.inside_prism norm_dir lo hi vertices.now p }
 {
@@ -47,6 +49,7 @@ fn inside_prism(norm_dir: u64, lo: f64, hi: f64, vertices: &[f64], p: Vec3) -> b
 }
 
 // Whether `p` lies in the polygon in the plane at `elevation` normal to axis `norm_dir`.
+#[tactic(auto, unfolding(crate::specs::Planes::inside_polygon))]
 pub fn inside_polygon(norm_dir: u64, elevation: f64, vertices: &[f64], p: Vec3) -> bool
     ensures { result ≡ Planes.inside_polygon norm_dir elevation vertices.now p }
 {
@@ -54,6 +57,7 @@ pub fn inside_polygon(norm_dir: u64, elevation: f64, vertices: &[f64], p: Vec3) 
 }
 
 // The same for the polygon extruded along the axis by `length`.
+#[tactic(auto, unfolding(crate::specs::Planes::inside_lin_poly))]
 pub fn inside_lin_poly(
     norm_dir: u64,
     elevation: f64,
