@@ -68,6 +68,7 @@ pub enum Shape {
 }
 
 // The dispatch: the point and the list go to the shape's own rule.
+#[tactic(auto, unfolding(crate::specs::Shapes::inside))]
 pub fn inside(shape: Shape, list: &[f64], p: Vec3) -> bool
     ensures { result ≡ Shapes.inside shape list.now p }
 {
