@@ -15,15 +15,14 @@ use shapes::Shape;
 fn asked(shape: Shape, list: &[f64], p: Vec3) -> u64
     ensures { result ≡ value (shape_answer shape list.now p) }
 {
-    primitives::contains(shape, list, p).value()
+    primitives::value(primitives::contains(shape, list, p))
 }
 
 // The answer for a shape that needs no list.
 fn alone(shape: Shape, p: Vec3) -> u64
     ensures { result ≡ value (shape_answer shape [] p) }
 {
-    let none: [f64; 0] = [];
-    asked(shape, &none, p)
+    asked(shape, &[], p)
 }
 
 // Whether the point x, y, z lies in the sphere.
@@ -32,14 +31,10 @@ pub fn csx_sphere(cx: f64, cy: f64, cz: f64, radius: f64, x: f64, y: f64, z: f64
 {
     alone(
         Shape::Sphere {
-            center: Vec3 {
-                x: cx,
-                y: cy,
-                z: cz,
-            },
-            radius: radius,
+            center: Vec3::new(cx, cy, cz),
+            radius,
         },
-        Vec3 { x: x, y: y, z: z },
+        Vec3::new(x, y, z),
     )
 }
 
@@ -49,18 +44,10 @@ pub fn csx_box(ax: f64, ay: f64, az: f64, bx: f64, by: f64, bz: f64, x: f64, y: 
 {
     alone(
         Shape::Box {
-            start: Vec3 {
-                x: ax,
-                y: ay,
-                z: az,
-            },
-            stop: Vec3 {
-                x: bx,
-                y: by,
-                z: bz,
-            },
+            start: Vec3::new(ax, ay, az),
+            stop: Vec3::new(bx, by, bz),
         },
-        Vec3 { x: x, y: y, z: z },
+        Vec3::new(x, y, z),
     )
 }
 
@@ -80,18 +67,10 @@ pub fn csx_box_cylindrical(
 {
     alone(
         Shape::CylindricalBox {
-            start: Vec3 {
-                x: ax,
-                y: ay,
-                z: az,
-            },
-            stop: Vec3 {
-                x: bx,
-                y: by,
-                z: bz,
-            },
+            start: Vec3::new(ax, ay, az),
+            stop: Vec3::new(bx, by, bz),
         },
-        Vec3 { x: x, y: y, z: z },
+        Vec3::new(x, y, z),
     )
 }
 
@@ -99,7 +78,7 @@ pub fn csx_box_cylindrical(
 pub fn csx_multi_box(list: &[f64], x: f64, y: f64, z: f64) -> u64
     ensures { result ≡ value (shape_answer Shapes.MultiBox list.now (vec x y z)) }
 {
-    asked(Shape::MultiBox, list, Vec3 { x: x, y: y, z: z })
+    asked(Shape::MultiBox, list, Vec3::new(x, y, z))
 }
 
 // The points within half the width of the sphere's surface.
@@ -117,15 +96,11 @@ pub fn csx_spherical_shell(
 {
     alone(
         Shape::SphericalShell {
-            center: Vec3 {
-                x: cx,
-                y: cy,
-                z: cz,
-            },
-            radius: radius,
+            center: Vec3::new(cx, cy, cz),
+            radius,
             shell_width: width,
         },
-        Vec3 { x: x, y: y, z: z },
+        Vec3::new(x, y, z),
     )
 }
 
@@ -146,19 +121,11 @@ pub fn csx_cylinder(
 {
     alone(
         Shape::Cylinder {
-            start: Vec3 {
-                x: ax,
-                y: ay,
-                z: az,
-            },
-            stop: Vec3 {
-                x: bx,
-                y: by,
-                z: bz,
-            },
-            radius: radius,
+            start: Vec3::new(ax, ay, az),
+            stop: Vec3::new(bx, by, bz),
+            radius,
         },
-        Vec3 { x: x, y: y, z: z },
+        Vec3::new(x, y, z),
     )
 }
 
@@ -180,20 +147,12 @@ pub fn csx_cylindrical_shell(
 {
     alone(
         Shape::CylindricalShell {
-            start: Vec3 {
-                x: ax,
-                y: ay,
-                z: az,
-            },
-            stop: Vec3 {
-                x: bx,
-                y: by,
-                z: bz,
-            },
-            radius: radius,
+            start: Vec3::new(ax, ay, az),
+            stop: Vec3::new(bx, by, bz),
+            radius,
             shell_width: width,
         },
-        Vec3 { x: x, y: y, z: z },
+        Vec3::new(x, y, z),
     )
 }
 
@@ -204,10 +163,10 @@ pub fn csx_polygon(normal: u64, elevation: f64, list: &[f64], x: f64, y: f64, z:
     asked(
         Shape::Polygon {
             norm_dir: normal,
-            elevation: elevation,
+            elevation,
         },
         list,
-        Vec3 { x: x, y: y, z: z },
+        Vec3::new(x, y, z),
     )
 }
 
@@ -226,11 +185,11 @@ pub fn csx_lin_poly(
     asked(
         Shape::LinPoly {
             norm_dir: normal,
-            elevation: elevation,
-            length: length,
+            elevation,
+            length,
         },
         list,
-        Vec3 { x: x, y: y, z: z },
+        Vec3::new(x, y, z),
     )
 }
 
@@ -238,18 +197,14 @@ pub fn csx_lin_poly(
 pub fn csx_wire(list: &[f64], radius: f64, x: f64, y: f64, z: f64) -> u64
     ensures { result ≡ value (shape_answer (Shapes.Wire radius) list.now (vec x y z)) }
 {
-    asked(
-        Shape::Wire { radius: radius },
-        list,
-        Vec3 { x: x, y: y, z: z },
-    )
+    asked(Shape::Wire { radius }, list, Vec3::new(x, y, z))
 }
 
 // The polyline itself, which holds no point.
 pub fn csx_curve(list: &[f64], x: f64, y: f64, z: f64) -> u64
     ensures { result ≡ value (shape_answer Shapes.Curve list.now (vec x y z)) }
 {
-    asked(Shape::Curve, list, Vec3 { x: x, y: y, z: z })
+    asked(Shape::Curve, list, Vec3::new(x, y, z))
 }
 
 // The point a, which holds no point.
@@ -258,13 +213,9 @@ pub fn csx_point(ax: f64, ay: f64, az: f64, x: f64, y: f64, z: f64) -> u64
 {
     alone(
         Shape::Point {
-            point: Vec3 {
-                x: ax,
-                y: ay,
-                z: az,
-            },
+            point: Vec3::new(ax, ay, az),
         },
-        Vec3 { x: x, y: y, z: z },
+        Vec3::new(x, y, z),
     )
 }
 

@@ -1,5 +1,5 @@
 -- Document 01's questions 11, 10 and 9 of a shape, and the answer of the shape question. Definitions, and the law by which a loop over a list computes them.
-use Rattle.std.specs.Prelude.{ℕ, ◌+◌, ◌/◌, ◌%◌, ◌<◌, ◌≡◌, Bool, true, cond, ◌&&◌, List, [], ◌∷◌, eqb, leb, Float, length, get_or, drop}
+use Rattle.std.specs.Prelude.{ℕ, ◌+◌, ◌/◌, ◌%◌, ◌<◌, ◌≡◌, Bool, true, false, cond, ◌&&◌, Option, Some, None, Result, Ok, Err, List, [], ◌∷◌, eqb, leb, Float, length, get_or, drop}
 use Rattle.std.proofs.Common.{add-one, drop-cons}
 use Rattle.std.specs.Float.{nan}
 use Rattle.float.specs.Rules as Rules
@@ -11,27 +11,26 @@ use Rattle.refusal.specs.Numbers.{code}
 use Rattle.shapes.specs.declared.Shape.{Shape}
 use Rattle.shapes.specs.declared.Shape.TheVariants.{Box, CylindricalBox, MultiBox, Sphere, SphericalShell, Cylinder, CylindricalShell, Polygon, LinPoly, Curve, Wire, Point}
 use Rattle.shapes.specs.Shapes.{inside}
-use Rattle.primitives.specs.declared.Answer.{Answer}
-use Rattle.primitives.specs.declared.Answer.TheVariants.{Outside, Inside, Refused}
 
--- the numbers of an entry: polygon 2, wire 3, multi-box 6; 0 for a shape whose list is no list of entries
-abbrev pub entry_size : Shape → ℕ
-entry_size (Box start stop) = 0
-entry_size (CylindricalBox start stop) = 0
-entry_size MultiBox = 6
-entry_size (Sphere center radius) = 0
-entry_size (SphericalShell center radius width) = 0
-entry_size (Cylinder start stop radius) = 0
-entry_size (CylindricalShell start stop radius width) = 0
-entry_size (Polygon normal elevation) = 2
-entry_size (LinPoly normal elevation extent) = 2
-entry_size Curve = 0
-entry_size (Wire radius) = 3
-entry_size (Point point) = 0
+-- the numbers of an entry: polygon 2, wire 3, multi-box 6; none for a shape whose list is no list of entries
+abbrev pub entry_size : Shape → Option ℕ
+entry_size (Box start stop) = None
+entry_size (CylindricalBox start stop) = None
+entry_size MultiBox = Some 6
+entry_size (Sphere center radius) = None
+entry_size (SphericalShell center radius width) = None
+entry_size (Cylinder start stop radius) = None
+entry_size (CylindricalShell start stop radius width) = None
+entry_size (Polygon normal elevation) = Some 2
+entry_size (LinPoly normal elevation extent) = Some 2
+entry_size Curve = None
+entry_size (Wire radius) = Some 3
+entry_size (Point point) = None
 
 -- whether a list of this length is at most 4,096 whole entries of this size
-unfoldable pub whole : ℕ → ℕ → Bool
-whole size len = cond (eqb size 0) true (eqb (len % size) 0 && leb (len / size) 4096)
+unfoldable pub whole : Option ℕ → ℕ → Bool
+whole None len = true
+whole (Some size) len = eqb (len % size) 0 && leb (len / size) 4096
 
 -- question 11: has a polygon, wire or multi-box whole entries, at most 4,096?
 unfoldable pub whole_entries : Shape → List Float → Bool
@@ -62,26 +61,22 @@ unfoldable pub finite_point : Vec3 → Bool
 finite_point p = Vectors.is_finite p
 
 -- a question: if its answer is no, the refusal; else what follows
-abbrev pub ask : Bool → Refusal → Answer → Answer
-ask passed refusal next = cond passed next (Refused refusal)
-
--- the rule's answer
-abbrev pub answer : Bool → Answer
-answer within = cond within Inside Outside
+abbrev pub ask : Bool → Refusal → Result Bool Refusal → Result Bool Refusal
+ask passed refusal next = cond passed next (Err refusal)
 
 -- the shape question: 11, 10, 9, and then the rule
-unfoldable pub shape_answer : Shape → List Float → Vec3 → Answer
+unfoldable pub shape_answer : Shape → List Float → Vec3 → Result Bool Refusal
 shape_answer shape list p =
     ask (whole_entries shape list) Refusals.Entries
     (ask (finite_numbers shape list) Refusals.ShapeNumber
     (ask (finite_point p) (Refusals.Point 0)
-    (answer (inside shape list p))))
+    (Ok (inside shape list p))))
 
 -- document 01's number of an answer: 0 outside, 1 inside, and a refusal's number × 1,000,000 plus its place
-abbrev pub value : Answer → ℕ
-value Outside = 0
-value Inside = 1
-value (Refused refusal) = code refusal
+abbrev pub value : Result Bool Refusal → ℕ
+value (Ok false) = 0
+value (Ok true) = 1
+value (Err refusal) = code refusal
 
 -- from place i on: the number there and the rest
 pub all_finite_next : (l : List Float) (i : ℕ) → i < length l → all_finite (drop i l) ≡ (Rules.is_finite (get_or l i nan) && all_finite (drop (i + 1) l))

@@ -2,103 +2,64 @@
 // the shape's rule. The definitions are in specs/Questions.antt.
 #![tactic(auto)]
 
-ghost use Rattle.std.specs.Prelude.{◌≡◌};
+ghost use Rattle.std.specs.Prelude.{◌≡◌, ◌<◌, IfSome};
 ghost use Rattle.primitives.specs.Questions as Questions;
 
 use math::Vec3;
 use refusal::Refusal;
 use shapes::Shape;
 
-// What a shape question answers.
-#[derive(Clone, Copy)]
-pub enum Answer {
-    Outside,
-    Inside,
-    Refused(Refusal),
-}
-
-impl Answer {
-    // What a C function returns for it: 0, 1 or the refusal's number × 1,000,000 plus its place.
-    pub fn value(self) -> u64
-        ensures { result ≡ Questions.value self }
-    {
-        match self {
-            Answer::Outside => 0,
-            Answer::Inside => 1,
-            Answer::Refused(refusal) => refusal.code(),
-        }
+// What a C function returns for an answer: 0 outside, 1 inside, or the refusal's number × 1,000,000 plus its
+// place.
+pub fn value(answer: Result<bool, Refusal>) -> u64
+    ensures { result ≡ Questions.value answer }
+{
+    match answer {
+        Ok(inside) => u64::from(inside),
+        Err(refusal) => refusal.code(),
     }
 }
 
-// The numbers of an entry of the shape's list, for the shapes that question 11 asks; else 0.
-fn entry_size(shape: Shape) -> usize
-    ensures { result ≡ Questions.entry_size shape }
+// The numbers of an entry of the shape's list, for the shapes that question 11 asks.
+fn entry_size(shape: Shape) -> Option<usize>
+    ensures size { result ≡ Questions.entry_size shape }
+    ensures above_zero { IfSome result (λ size. 0 < size) }
 {
     match shape {
-        Shape::Box { start: _, stop: _ } => 0,
-        Shape::CylindricalBox { start: _, stop: _ } => 0,
-        Shape::MultiBox => 6,
-        Shape::Sphere {
-            center: _,
-            radius: _,
-        } => 0,
-        Shape::SphericalShell {
-            center: _,
-            radius: _,
-            shell_width: _,
-        } => 0,
-        Shape::Cylinder {
-            start: _,
-            stop: _,
-            radius: _,
-        } => 0,
-        Shape::CylindricalShell {
-            start: _,
-            stop: _,
-            radius: _,
-            shell_width: _,
-        } => 0,
-        Shape::Polygon {
-            norm_dir: _,
-            elevation: _,
-        } => 2,
-        Shape::LinPoly {
-            norm_dir: _,
-            elevation: _,
-            length: _,
-        } => 2,
-        Shape::Curve => 0,
-        Shape::Wire { radius: _ } => 3,
-        Shape::Point { point: _ } => 0,
+        Shape::MultiBox => Some(6),
+        Shape::Polygon { .. } | Shape::LinPoly { .. } => Some(2),
+        Shape::Wire { .. } => Some(3),
+        Shape::Box { .. }
+        | Shape::CylindricalBox { .. }
+        | Shape::Sphere { .. }
+        | Shape::SphericalShell { .. }
+        | Shape::Cylinder { .. }
+        | Shape::CylindricalShell { .. }
+        | Shape::Curve
+        | Shape::Point { .. } => None,
     }
 }
 
 // Question 11: has a polygon, wire or multi-box whole entries, at most 4,096?
+#[tactic(auto, unfolding(crate::specs::Questions::whole_entries, crate::specs::Questions::whole))]
 fn whole_entries(shape: Shape, list: &[f64]) -> bool
     ensures { result ≡ Questions.whole_entries shape list.now }
 {
-    let size = entry_size(shape);
-    if size == 0 {
-        return true;
+    match entry_size(shape) {
+        Some(size) => (list.len() % size == 0) & (list.len() / size <= 4096),
+        None => true,
     }
-    (list.len() % size == 0) & (list.len() / size <= 4096)
 }
 
 // Whether every number of the list is finite.
 fn all_finite(list: &[f64]) -> bool
     ensures { result ≡ Questions.all_finite list.now }
 {
-    let mut i = 0;
-    while i < list.len() {
-        if !float::is_finite(list[i]) {
-            return false;
-        }
-        i += 1;
-    }
-    true
+    list.iter().all(|x| float::is_finite(*x))
 }
 
 // Question 10: is each number of the shape finite?
+#[tactic(auto, unfolding(crate::specs::Questions::finite_numbers))]
 fn finite_numbers(shape: Shape, list: &[f64]) -> bool
     ensures { result ≡ Questions.finite_numbers shape list.now }
 {
@@ -128,14 +89,11 @@ fn finite_numbers(shape: Shape, list: &[f64]) -> bool
                 & float::is_finite(radius)
                 & float::is_finite(shell_width)
         }
-        Shape::Polygon {
-            norm_dir: _,
-            elevation,
-        } => float::is_finite(elevation) & all_finite(list),
+        Shape::Polygon { elevation, .. } => float::is_finite(elevation) & all_finite(list),
         Shape::LinPoly {
-            norm_dir: _,
             elevation,
             length,
+            ..
         } => float::is_finite(elevation) & float::is_finite(length) & all_finite(list),
         Shape::Curve => all_finite(list),
         Shape::Wire { radius } => float::is_finite(radius) & all_finite(list),
@@ -144,23 +102,18 @@ fn finite_numbers(shape: Shape, list: &[f64]) -> bool
 }
 
 // Whether the point lies in the shape, after questions 11, 10 and 9.
-pub fn contains(shape: Shape, list: &[f64], p: Vec3) -> Answer
+#[tactic(auto, unfolding(crate::specs::Questions::shape_answer, crate::specs::Questions::finite_point))]
+pub fn contains(shape: Shape, list: &[f64], p: Vec3) -> Result<bool, Refusal>
     ensures { result ≡ Questions.shape_answer shape list.now p }
 {
     if !whole_entries(shape, list) {
-        return Answer::Refused(Refusal::Entries);
+        return Err(Refusal::Entries);
     }
-    let numbers = finite_numbers(shape, list);
-    let point = p.is_finite();
-    if !numbers {
-        return Answer::Refused(Refusal::ShapeNumber);
+    if !finite_numbers(shape, list) {
+        return Err(Refusal::ShapeNumber);
     }
-    if !point {
-        return Answer::Refused(Refusal::Point(0));
+    if !p.is_finite() {
+        return Err(Refusal::Point(0));
     }
-    if shapes::inside(shape, list, p) {
-        Answer::Inside
-    } else {
-        Answer::Outside
-    }
+    Ok(shapes::inside(shape, list, p))
 }

@@ -1,33 +1,19 @@
-use native.Mathlib.Omega.{arith}
-use mathlib.Core.Path.{◌≡◌, refl, sym, ◌∙◌}
-use mathlib.Core.Bool.{true, false}
-use lib.Ieee.{nan}
-use lib.ListN.{get_or, drop, drop_of_length-le}
-use borrow.Author.Rules.{rules}
+-- `all_finite` meets its contract: std's `all` over the list is what the definition says.
+use Rattle.std.specs.Prelude.{◌≡◌, refl, ◌&&◌, List, [], ◌∷◌, Float}
+use Rattle.std.proofs.Common.{rules, tests, ap, ◌∙◌}
+use Rattle.std.proofs.lemmas.Iterator.{YieldsList-from_slice}
+use Rattle.std.proofs.lemmas.Iterator.Search.{all_from_yields_List}
+use Rattle.std.specs.List.{list_all}
 use Rattle.float.specs.Rules.{is_finite}
-use Rattle.primitives.specs.Questions.{all_finite, all_finite_next}
+use Rattle.primitives.specs.Questions.{all_finite}
 use Rattle.primitives.proofs.all_finite.Goals as goal
 
-pub loop-i-init : goal.loop-i-init
-loop-i-init c = (omega arith, refl)
-
-pub returns-then-not-is_finite : goal.returns-then-not-is_finite
-returns-then-not-is_finite c =
-    let list = c.args.list.now in
-    let next = all_finite_next list c.loop-i.i (omega arith) in
-    let not_finite : is_finite (get_or list c.loop-i.i nan) ≡ false = sym c.is_finite.ensures ∙ c.if-not-is_finite.true in
-    sym (next ∙ rw not_finite) ∙ c.loop-i.invariant.1
-
-pub loop-i-preserved : goal.loop-i-preserved
-loop-i-preserved c =
-    let list = c.args.list.now in
-    let next = all_finite_next list c.loop-i.i (omega arith) in
-    let finite : is_finite (get_or list c.loop-i.i nan) ≡ true = sym c.is_finite.ensures ∙ c.if-not-is_finite.false in
-    (search rules, rw finite at (sym next) ∙ c.loop-i.invariant.1)
+each : (l : List Float) → list_all (λ x. is_finite x) l ≡ all_finite l
+unfolding all_finite
+each [] = refl
+each (x ∷ rest) = ap (λ b. is_finite x && b) (each rest)
 
 pub returns : goal.returns
-unfolding all_finite
 returns c =
-    let list = c.args.list.now in
-    let end : all_finite (drop c.loop-i.i list) ≡ true = rw (drop_of_length-le list {i = c.loop-i.i} (omega arith)) in
-    sym end ∙ c.loop-i.invariant.1
+    all_from_yields_List (λ x. is_finite x) _ _ c.all.result c.all.ensures.ran (YieldsList-from_slice c.args.list.now (cc)) (λ x b q k. search (rules, tests))
+    ∙ each c.args.list.now

@@ -1,2 +1,0 @@
--- The lemma that functions of shapes share.
-pub mod Same
