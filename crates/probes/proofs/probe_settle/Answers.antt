@@ -12,4 +12,4 @@ found_or_none v None h = inl refl
 found_or_none v (Some q) h = inr h
 
 pub returns : goal.returns
-returns c = found_or_none _ c.settle.result c.settle.ensures
+returns c = rw c.unwrap_or.ensures (found_or_none _ c.settle.result c.settle.ensures)
