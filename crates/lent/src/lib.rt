@@ -5,13 +5,10 @@ ghost use Rattle.std.specs.Prelude.{◌≡◌, ◌≤◌, length, replicate};
 ghost use Rattle.lent.specs.Over.{over};
 
 // Writes 0 into the first `n` places.
+#[tactic(auto, unfolding(crate::specs::Over::over))]
 pub fn clear(work: &mut [u64], n: usize)
     requires { n ≤ length work.old }
     ensures { work.new ≡ over (replicate n 0) work.old }
 {
-    let mut i = 0;
-    while i < n {
-        work[i] = 0;
-        i += 1;
-    }
+    work[..n].fill(0);
 }
