@@ -5,34 +5,24 @@
 ghost use Rattle.std.specs.Prelude.{◌≡◌, ◌≤◌, length};
 ghost use Rattle.items.specs.Counting as Counting;
 
-// Counts in place k how often k stands among the items, for each k below `n`.
-fn count_items(items: &[u32], n: usize, work: &mut [u64])
-    requires { (n ≤ length work.old) × Counting.Zero n work.old }
-    ensures { Counting.Counted items.now n work.old work.new }
+// Counts in each place how often its number stands among the items.
+fn count_items(items: &[u32], counts: &mut [u64])
+    requires { Counting.Zero (length counts.old) counts.old }
+    ensures { Counting.Counted items.now (length counts.old) counts.old counts.new }
 {
-    let mut j = 0;
-    while j < items.len() {
-        let item = items[j] as usize;
-        if item < n {
-            work[item] += 1;
+    for item in items {
+        let k = *item as usize;
+        if k < counts.len() {
+            counts[k] += 1;
         }
-        j += 1;
     }
 }
 
-// Whether each of the first `n` places holds 1.
-fn all_ones(work: &[u64], n: usize) -> bool
-    requires { n ≤ length work.now }
-    ensures { result ≡ Counting.all_ones n work.now }
+// Whether each place holds 1.
+fn all_ones(counts: &[u64]) -> bool
+    ensures { result ≡ Counting.all_ones (length counts.now) counts.now }
 {
-    let mut i = n;
-    while i > 0 {
-        i -= 1;
-        if work[i] != 1 {
-            return false;
-        }
-    }
-    true
+    counts.iter().all(|count| *count == 1)
 }
 
 // Whether there are `n` items and each number below `n` stands once among them. The first `n` work places
@@ -44,7 +34,8 @@ pub fn items_once(items: &[u32], n: usize, work: &mut [u64]) -> bool
     if items.len() != n {
         return false;
     }
-    lent::clear(work, n);
-    count_items(items, n, work);
-    all_ones(work, n)
+    let counts = &mut work[..n];
+    counts.fill(0);
+    count_items(items, counts);
+    all_ones(counts)
 }

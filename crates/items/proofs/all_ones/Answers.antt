@@ -1,32 +1,28 @@
-use Prim.Native.Nat.{◌-◌}
-use native.Mathlib.Omega.{arith}
-use mathlib.Core.Path.{◌≡◌, refl, sym, ◌∙◌}
-use mathlib.Core.Bool.{true, false}
-use lib.Dec.{eqb}
-use lib.ListN.{get_or}
-use borrow.Author.Tests.{eq-eqb, ne_eqb}
-use Rattle.items.specs.Counting.{all_ones, all_ones_next}
+-- `all_ones` meets its contract: the definition goes from the last place down, and the library's from the first place up.
+use Rattle.std.proofs.Common.{◌≡◌, ℕ, zero, suc, ◌≤◌, Bool, true, false, ◌&&◌, eqb, List, length, get_or, take, refl, ◌∙◌, take_all, arith, add-one, le_refl, rules, tests}
+use Rattle.std.specs.List.{list_all}
+use Rattle.std.proofs.lemmas.Iterator.{YieldsList-from_slice}
+use Rattle.std.proofs.lemmas.Iterator.Search.{all_from_yields_List}
+use Rattle.std.proofs.lemmas.List.Folds.{list_all_more}
+use Rattle.items.specs.Counting.{all_ones}
 use Rattle.items.proofs.all_ones.Goals as goal
 
-pub loop-i-init : goal.loop-i-init
-loop-i-init c = (omega arith, refl)
+and_comm : (a b : Bool) → (a && b) ≡ (b && a)
+and_comm true true = refl
+and_comm true false = refl
+and_comm false true = refl
+and_comm false false = refl
 
-pub returns-then-work-i-ne1 : goal.returns-then-work-i-ne1
-returns-then-work-i-ne1 c =
-    let work = c.args.work.now in
-    let i = c.loop-i.i in
-    let other : eqb (get_or work (i - 1) 0) 1 ≡ false = ne_eqb _ _ c.if-work-i-ne1.true in
-    sym (all_ones_next i work (omega arith) ∙ rw other) ∙ c.loop-i.invariant.1
+all_ones_take : (n : ℕ) (work : List ℕ) → n ≤ length work → all_ones n work ≡ list_all (λ x. eqb x 1) (take n work)
+unfolding all_ones
+all_ones_take zero work h = refl
+all_ones_take (suc n) work h =
+    rw (all_ones_take n work (omega arith), ← add-one n, list_all_more (λ x. eqb x 1) work n 0 (omega arith)) (and_comm (eqb (get_or work n 0) 1) (list_all (λ x. eqb x 1) (take n work)))
 
-pub loop-i-preserved : goal.loop-i-preserved
-loop-i-preserved c =
-    let work = c.args.work.now in
-    let i = c.loop-i.i in
-    let one : eqb (get_or work (i - 1) 0) 1 ≡ true = eq-eqb _ _ c.if-work-i-ne1.false in
-    (omega arith, rw one at (sym (all_ones_next i work (omega arith))) ∙ c.loop-i.invariant.1)
+all_ones_all : (work : List ℕ) → list_all (λ x. eqb x 1) work ≡ all_ones (length work) work
+all_ones_all work = rw (all_ones_take (length work) work (le_refl _), take_all (length work) work (le_refl _))
 
 pub returns : goal.returns
-unfolding all_ones
 returns c =
-    let none : c.loop-i.i ≡ 0 = omega arith in
-    rw none at c.loop-i.invariant.1
+    let counts = c.args.counts.now in
+    all_from_yields_List (λ x. eqb x 1) _ _ c.all.result c.all.ensures.ran (YieldsList-from_slice counts cc) (λ x b q k. search (rules, tests)) ∙ all_ones_all counts
