@@ -2,37 +2,32 @@
 // keys tell in one pass whether each edge is used exactly twice. The definitions are in specs/.
 #![tactic(auto)]
 
-ghost use Rattle.std.specs.Prelude.{true, ◌≡◌, ◌≤◌, length, drop};
+ghost use Rattle.std.specs.Prelude.{true, ◌≡◌, ◌≤◌, length};
 ghost use Rattle.keys.specs.Sorting.{sorted};
 ghost use Rattle.lent.specs.Over.{over};
 ghost use Rattle.mesh_questions.specs.Faces.{faces};
 ghost use Rattle.mesh_questions.specs.Questions.{ends_fit};
-ghost use Rattle.edges.specs.Edges.{edge_key, keys_from, edge_keys, closed};
+ghost use Rattle.edges.specs.Edges.{edge_key, face_keys, edge_keys, closed};
 ghost use Rattle.edges.specs.Below.{Below};
-ghost use Rattle.edges.specs.Pairs.{starts_with, in_pairs, closed_keys};
+ghost use Rattle.edges.specs.Pairs.{in_pairs, closed_keys};
 
 // The key of an edge: smaller vertex × 65,536 + larger.
+#[tactic(auto, using(crate::specs::EdgeLaws::edge_key_min))]
 fn edge_key(a: u32, b: u32) -> u64
     ensures { result ≡ edge_key a b }
 {
-    if a <= b {
-        a as u64 * 65536 + b as u64
-    } else {
-        b as u64 * 65536 + a as u64
-    }
+    u64::from(a.min(b)) * 65536 + u64::from(a.max(b))
 }
 
-// Writes the keys of the edges from each corner to the next, and from the last corner to `first`.
-fn keys_from(first: u32, corners: &[u32], work: &mut [u64])
-    requires { length corners.now ≤ length work.old }
-    ensures { work.new ≡ over (keys_from first corners.now) work.old }
+// Writes the keys of a face's edges, one a corner: from each corner to the next, and from the last
+// corner to the first.
+fn face_keys(face: &[u32], work: &mut [u64])
+    requires { length face.now ≤ length work.old }
+    ensures { work.new ≡ over (face_keys face.now) work.old }
 {
-    let n = corners.len();
-    let mut i = 0;
-    while i < n {
-        let next = if i + 1 < n { corners[i + 1] } else { first };
-        work[i] = edge_key(corners[i], next);
-        i += 1;
+    for (i, corner) in face.iter().enumerate() {
+        let next = face.get(i + 1).copied().unwrap_or(face[0]);
+        work[i] = edge_key(*corner, next);
     }
 }
 
@@ -43,14 +38,10 @@ fn fill_keys(corners: &[u32], ends: &[u32], work: &mut [u64])
     ensures { work.new ≡ over (edge_keys (faces corners.now ends.now)) work.old }
 {
     let mut start = 0;
-    let mut f = 0;
-    while f < ends.len() {
-        let end = ends[f] as usize;
-        if start < end {
-            keys_from(corners[start], &corners[start..end], &mut work[start..end]);
-        }
+    for end in ends {
+        let end = *end as usize;
+        face_keys(&corners[start..end], &mut work[start..end]);
         start = end;
-        f += 1;
     }
 }
 
@@ -66,28 +57,19 @@ pub fn edge_keys(corners: &[u32], ends: &[u32], work: &mut [u64])
     keys::sort(&mut work[..n]);
 }
 
-// Whether `key` stands at place `i`.
-fn stands_at(keys: &[u64], i: usize, key: u64) -> bool
-    ensures { result ≡ starts_with key (drop i keys.now) }
-{
-    i < keys.len() && keys[i] == key
-}
-
 // Whether the keys, in ascending order, stand in pairs: each exactly twice.
+#[tactic(auto, unfolding(crate::specs::Pairs::in_pairs, crate::specs::Pairs::starts_with))]
 fn in_pairs(keys: &[u64]) -> bool
     ensures { result ≡ in_pairs keys.now }
 {
-    let mut i = 0;
-    while i < keys.len() {
-        let key = keys[i];
-        let second = stands_at(keys, i + 1, key);
-        let third = stands_at(keys, i + 2, key);
-        if !second | third {
+    let mut left = keys;
+    while let [key, second, rest @ ..] = left {
+        if second != key || rest.first() == Some(key) {
             return false;
         }
-        i += 2;
+        left = rest;
     }
-    true
+    left.is_empty()
 }
 
 // Whether a mesh is closed: it has so many faces, and these are the keys of its edges in ascending
