@@ -13,7 +13,6 @@ use Rattle.math.specs.declared.Vec3.{Vec3}
 use Rattle.math.specs.Vectors.{at, points, points_next, length_points}
 use Rattle.mesh.specs.declared.Triangle.{Triangle}
 use Rattle.mesh.specs.Triangles.{triangle}
-use Rattle.weld.specs.declared.Numbered.{Numbered}
 use Rattle.weld.specs.Welding.{find, add, add_all, kept, faces_among, numbers, corners_of, ends_from, vertices, faces, coords, corners, ends}
 use Rattle.weld.specs.Questions.{ask_corners}
 use Rattle.weld.specs.Steps.{first, AddsThree, Keeps, WeldsAll}
@@ -101,17 +100,17 @@ done_none l coords₀ corners₀ ends₀ = record { vertices = refl; faces = ref
 module _ (l coords₀ : List Float) (corners₀ ends₀ : List ℕ) (i : ℕ) (coords₁ : List Float) (corners₁ ends₁ : List ℕ) (vs fs : ℕ) (d : Done l coords₀ corners₀ ends₀ i coords₁ corners₁ ends₁ vs fs) where
   -- one more triangle
   pub done_next : i < length l / 9 → ask_corners l ≡ Passed
-      → (r : Numbered) (coords₂ : List Float) → AddsThree (first vs coords₁) coords₁ (at l (9 * i)) (at l (9 * i + 3)) (at l (9 * i + 6)) r coords₂
-      → (fs₂ : ℕ) (corners₂ ends₂ : List ℕ) → Keeps r.triangle fs corners₁ ends₁ fs₂ corners₂ ends₂
-      → Done l coords₀ corners₀ ends₀ (i + 1) coords₂ corners₂ ends₂ r.count fs₂
-  done_next h finite r coords₂ adds fs₂ corners₂ ends₂ keeps =
+      → (t : Triangle) (vs₂ : ℕ) (coords₂ : List Float) → AddsThree (first vs coords₁) coords₁ (at l (9 * i)) (at l (9 * i + 3)) (at l (9 * i + 6)) t vs₂ coords₂
+      → (fs₂ : ℕ) (corners₂ ends₂ : List ℕ) → Keeps t fs corners₁ ends₁ fs₂ corners₂ ends₂
+      → Done l coords₀ corners₀ ends₀ (i + 1) coords₂ corners₂ ends₂ vs₂ fs₂
+  done_next h finite t vs₂ coords₂ adds fs₂ corners₂ ends₂ keeps =
       let old = vertices_to l i in
       let before = faces_to l i in
       let same : first vs coords₁ ≡ old = rw d.coords (first_over old vs coords₀ d.vertices) in
       let added = rw same at adds in
       let corners_left = left l i h in
       let new = vertices_to_next l i h _ _ _ _ corners_left in
-      let next : faces_to l (i + 1) ≡ before ++ kept r.triangle = faces_to_next l i h _ _ _ _ corners_left finite ∙ ap (λ t. before ++ kept t) (sym added.corners) in
+      let next : faces_to l (i + 1) ≡ before ++ kept t = faces_to_next l i h _ _ _ _ corners_left finite ∙ ap (λ u. before ++ kept u) (sym added.corners) in
       let start : 0 + 3 * length before ≡ 3 * fs = omega arith in
       record {
         vertices = rw new added.count;

@@ -4,12 +4,10 @@
 #![tactic(auto)]
 
 ghost use Rattle.std.specs.Prelude.{◌≡◌, true, ◌+◌, ◌*◌, ◌/◌, ◌<◌, ◌≤◌, length};
+ghost use Rattle.math.specs.Vectors.{at, points};
 ghost use Rattle.refusal.specs.Verdicts.{Passed};
-ghost use Rattle.math.specs.Vectors.{at};
-ghost use Rattle.mesh.specs.Boxes.{vertex};
-ghost use Rattle.weld.specs.Welding.{same, find};
 ghost use Rattle.weld.specs.Questions.{whole_triangles, ask_corners, room, ask_triangles, Welds};
-ghost use Rattle.weld.specs.Steps.{first, Adds, AddsThree, Keeps, WeldsAll};
+ghost use Rattle.weld.specs.Steps.{first, Finds, Adds, AddsThree, Keeps, WeldsAll};
 
 use math::Vec3;
 use mesh::Triangle;
@@ -29,104 +27,61 @@ struct Counts {
     faces: usize,
 }
 
-// A corner's vertex number, and how many vertices are written now.
-#[derive(Clone, Copy)]
-struct Corner {
-    number: u32,
-    count: usize,
-}
-
-// The vertex numbers of a triangle's corners, and how many vertices are written now.
-#[derive(Clone, Copy)]
-struct Numbered {
-    triangle: Triangle,
-    count: usize,
-}
-
-// Whether vertex `v` is the same as `p`.
-fn is_vertex(coords: &[f64], v: usize, p: Vec3) -> bool
-    requires { 3 * v + 2 < length coords.now }
-    ensures { result ≡ same (vertex coords.now v) p }
+// The number of the first vertex that is the same as `p`: its coordinates are equal as numbers.
+fn find_vertex(vertices: &[f64], p: Vec3) -> Option<usize>
+    ensures { Finds (points vertices.now) p result }
 {
-    if coords[3 * v] != p.x {
-        return false;
-    }
-    (coords[3 * v + 1] == p.y) & (coords[3 * v + 2] == p.z)
+    let (vertices, _) = vertices.as_chunks::<3>();
+    vertices
+        .iter()
+        .position(|[x, y, z]| *x == p.x && *y == p.y && *z == p.z)
 }
 
-// The number of the first of `count` vertices that is the same as `p`, or `count`.
-fn find_vertex(coords: &[f64], count: usize, p: Vec3) -> usize
-    requires { 3 * count ≤ length coords.now }
-    ensures { result ≡ find (first count coords.now) p }
+// The number of `p` among the first `count` vertices, behind which it is written unless one is the same.
+fn add_vertex(coords: &mut [f64], count: &mut usize, p: Vec3) -> u32
+    requires count_in_bounds { 3 * count.old + 2 < length coords.old }
+    requires count_bound { count.old < 65536 }
+    ensures { Adds (first count.old coords.old) coords.old p result count.new coords.new }
 {
-    let mut v = 0;
-    while v < count {
-        if is_vertex(coords, v, p) {
-            return v;
-        }
-        v += 1;
+    let n = *count;
+    if let Some(found) = find_vertex(&coords[..3 * n], p) {
+        return found as u32;
     }
-    v
+    coords[3 * n] = p.x;
+    coords[3 * n + 1] = p.y;
+    coords[3 * n + 2] = p.z;
+    *count = n + 1;
+    n as u32
 }
 
-// The number of `p` among `count` vertices, behind which it is written unless one is the same.
-fn add_vertex(coords: &mut [f64], count: usize, p: Vec3) -> Corner
-    requires count_in_bounds { 3 * count + 2 < length coords.old }
-    requires count_bound { count < 65536 }
-    ensures { Adds (first count coords.old) coords.old p result coords.new }
+// The numbers of a triangle's corners, each found or written in order.
+fn add_corners(triangle: &[f64; 9], coords: &mut [f64], count: &mut usize) -> Triangle
+    requires count_in_bounds { 3 * count.old + 8 < length coords.old }
+    requires count_bound { count.old + 2 < 65536 }
+    ensures { AddsThree (first count.old coords.old) coords.old (at triangle.now 0) (at triangle.now 3) (at triangle.now 6) result count.new coords.new }
 {
-    let found = find_vertex(coords, count, p);
-    if found < count {
-        return Corner {
-            number: found as u32,
-            count: count,
-        };
-    }
-    coords[3 * count] = p.x;
-    coords[3 * count + 1] = p.y;
-    coords[3 * count + 2] = p.z;
-    Corner {
-        number: found as u32,
-        count: count + 1,
-    }
+    let a = add_vertex(coords, count, Vec3::at(triangle, 0));
+    let b = add_vertex(coords, count, Vec3::at(triangle, 3));
+    let c = add_vertex(coords, count, Vec3::at(triangle, 6));
+    Triangle { a, b, c }
 }
 
-// The numbers of the corners of the triangle at place `i`, each found or written in order.
-fn add_corners(triangles: &[f64], i: usize, coords: &mut [f64], count: usize) -> Numbered
-    requires i_in_bounds { i + 8 < length triangles.now }
-    requires count_in_bounds { 3 * count + 8 < length coords.old }
-    requires count_bound { count + 2 < 65536 }
-    ensures { AddsThree (first count coords.old) coords.old (at triangles.now i) (at triangles.now (i + 3)) (at triangles.now (i + 6)) result coords.new }
-{
-    let a = add_vertex(coords, count, Vec3::at(triangles, i));
-    let b = add_vertex(coords, a.count, Vec3::at(triangles, i + 3));
-    let c = add_vertex(coords, b.count, Vec3::at(triangles, i + 6));
-    Numbered {
-        triangle: Triangle {
-            a: a.number,
-            b: b.number,
-            c: c.number,
-        },
-        count: c.count,
-    }
-}
-
-// Writes the triangle as the face behind `faces` faces unless two of its corners are one vertex,
-// and returns how many faces there are then.
-fn keep_triangle(t: Triangle, corners: &mut [u32], ends: &mut [u32], faces: usize) -> usize
-    requires faces_in_bounds { 3 * faces + 2 < length corners.old }
-    requires faces_in_bounds_2 { faces < length ends.old }
-    requires faces_bound { faces < 65536 }
-    ensures { Keeps t faces corners.old ends.old result corners.new ends.new }
+// Writes the triangle as the face behind `count` faces unless two of its corners are one vertex.
+fn keep_triangle(t: Triangle, corners: &mut [u32], ends: &mut [u32], count: &mut usize)
+    requires corners_in_bounds { 3 * count.old + 2 < length corners.old }
+    requires ends_in_bounds { count.old < length ends.old }
+    requires count_bound { count.old < 65536 }
+    ensures { Keeps t count.old corners.old ends.old count.new corners.new ends.new }
 {
     if (t.a == t.b) | (t.b == t.c) | (t.a == t.c) {
-        return faces;
+        return;
     }
-    corners[3 * faces] = t.a;
-    corners[3 * faces + 1] = t.b;
-    corners[3 * faces + 2] = t.c;
-    ends[faces] = (3 * faces + 3) as u32;
-    faces + 1
+    let n = *count;
+    corners[3 * n] = t.a;
+    corners[3 * n + 1] = t.b;
+    corners[3 * n + 2] = t.c;
+    ends[n] = (3 * n + 3) as u32;
+    *count = n + 1;
 }
 
 // Welds all triangles, which have passed the questions.
@@ -136,20 +91,16 @@ fn weld_all(triangles: &[f64], coords: &mut [f64], corners: &mut [u32], ends: &m
     requires ends_value { room (length triangles.now / 9) (length coords.old) (length corners.old) (length ends.old) ≡ true }
     ensures { WeldsAll triangles.now coords.old corners.old ends.old result coords.new corners.new ends.new }
 {
-    let n = triangles.len() / 9;
-    let mut vertices = 0;
-    let mut faces = 0;
-    let mut i = 0;
-    while i < n {
-        let next = add_corners(triangles, 9 * i, coords, vertices);
-        vertices = next.count;
-        faces = keep_triangle(next.triangle, corners, ends, faces);
-        i += 1;
+    let mut counts = Counts {
+        vertices: 0,
+        faces: 0,
+    };
+    let (all, _) = triangles.as_chunks::<9>();
+    for triangle in all {
+        let t = add_corners(triangle, coords, &mut counts.vertices);
+        keep_triangle(t, corners, ends, &mut counts.faces);
     }
-    Counts {
-        vertices: vertices,
-        faces: faces,
-    }
+    counts
 }
 
 // Questions 1, 5 and 6, with the lengths of the buffers.

@@ -4,7 +4,7 @@ use mathlib.Core.Bool.{true, false}
 use mathlib.Core.Path.{◌≡◌, sym}
 use mathlib.Core.List.{List, [], ◌∷◌, append-nil}
 use native.Mathlib.Omega.{arith}
-use lib.ListN.{length, set, length-set}
+use lib.ListN.{length, set}
 use Rattle.lent.specs.Over.{over_own, over_stores, over_three}
 use Rattle.mesh.specs.declared.Triangle.{Triangle}
 use Rattle.weld.specs.Welding.{degenerate, kept, corners_of, ends_from}
@@ -34,15 +34,8 @@ keeps_one t n corners ends d h k =
 
 pub returns-then-t : goal.returns-then-t
 unfolding degenerate
-returns-then-t c =
-    let a = c.args in
-    keeps_none a.t a.faces a.corners.now a.ends.now c.if-t.true (omega arith) (omega arith)
-
-pub bounds-corners-faces-2 : goal.bounds-corners-faces-2
-bounds-corners-faces-2 c = simp length-set (omega arith)
+returns-then-t c = keeps_none c.args.t c.args.count.now c.args.corners.now c.args.ends.now c.if-t.true (omega arith) (omega arith)
 
 pub returns : goal.returns
 unfolding degenerate
-returns c =
-    let a = c.args in
-    keeps_one a.t a.faces a.corners.now a.ends.now c.if-t.false (omega arith) (omega arith)
+returns c = keeps_one c.args.t c.args.count.now c.args.corners.now c.args.ends.now c.if-t.false (omega arith) (omega arith)

@@ -1,56 +1,60 @@
-use Prim.Native.Nat.{◌/◌}
-use native.Mathlib.Omega.{arith}
-use mathlib.Core.Path.{refl, ◌∙◌}
-use lib.ListN.{length}
+use Rattle.std.proofs.Common.{◌≡◌, ℕ, zero, suc, ◌+◌, ◌*◌, ◌/◌, ◌<◌, List, [], length, get_or, take, drop, drop-drop, refl, ◌∙◌, arith}
+use Rattle.std.proofs.Math.Seq.{get_or-take, get_or-drop}
+use Rattle.std.specs.Prelude.{Float}
+use Rattle.std.specs.Float.{nan}
+use Rattle.std.specs.Simd.{first_chunks}
+use Rattle.math.specs.Vectors.{at}
 use Rattle.weld.specs.Passed.{whole_passed, room_passed}
 use Rattle.weld.proofs.Walk.{done_none, done_next, done_all, length_vertices_to, length_faces_to}
 use Rattle.weld.proofs.weld_all.Goals as goal
 
-pub loop-i-init : goal.loop-i-init
-loop-i-init c = (omega arith, refl, refl, refl, done_none _ _ _ _)
+-- triangle i has nine numbers of the list, from place 9 i on
+ninth : (k i : ℕ) (l : List Float) → i < k → get_or (first_chunks 9 k l) i [] ≡ take 9 (drop (9 * i) l)
+ninth zero i l h = absurd (omega arith)
+ninth (suc k) zero l h = refl
+ninth (suc k) (suc i) l h =
+    let sum : 9 + 9 * i ≡ 9 * suc i = omega arith in
+    ninth k i (drop 9 l) (omega arith) ∙ rw (drop-drop (9 * i) 9 l, sum)
 
-pub add_corners-next-requires : goal.add_corners-next-requires
-add_corners-next-requires c =
+at_ninth : (l : List Float) (m j : ℕ) → j + 2 < 9 → at (take 9 (drop m l)) j ≡ at l (m + j)
+unfolding at
+at_ninth l m j h =
+    let read = λ (k : ℕ) (b : k < 9). get_or-take 9 (drop m l) k nan b ∙ get_or-drop m l k nan in
+    let one : m + (j + 1) ≡ m + j + 1 = omega arith in
+    let two : m + (j + 2) ≡ m + j + 2 = omega arith in
+    rw (read j (omega arith), read (j + 1) (omega arith), read (j + 2) (omega arith), one, two)
+
+corner : (l : List Float) (all : List (List Float)) (i j : ℕ) → all ≡ first_chunks 9 (length l / 9) l → i < length l / 9 → j + 2 < 9
+    → at (get_or all i []) j ≡ at l (9 * i + j)
+corner l all i j e h b = rw (e, ninth (length l / 9) i l h) (at_ninth l (9 * i) j b)
+
+pub loop-triangle-init : goal.loop-triangle-init
+loop-triangle-init c = done_none _ _ _ _
+
+pub add_corners-t-requires : goal.add_corners-t-requires
+add_corners-t-requires c =
     let a = c.args in
-    let i = c.loop-i.i in
     let whole = whole_passed a.triangles.now c.requires.triangles_value in
     let room = room_passed (length a.triangles.now / 9) _ _ _ c.requires.ends_value in
-    omega (arith, length_vertices_to a.triangles.now i (omega arith))
+    omega (arith, length_vertices_to a.triangles.now c.loop-triangle.triangle-index (omega arith))
 
-pub keep_triangle-faces-requires : goal.keep_triangle-faces-requires
-keep_triangle-faces-requires c =
+pub keep_triangle-requires : goal.keep_triangle-requires
+keep_triangle-requires c =
     let a = c.args in
-    let i = c.loop-i.i in
-    let inv = c.loop-i.invariant in
-    let before = c.loop-i-test.true in
     let whole = whole_passed a.triangles.now c.requires.triangles_value in
     let room = room_passed (length a.triangles.now / 9) _ _ _ c.requires.ends_value in
-    omega (arith, length_faces_to a.triangles.now i (omega arith))
+    omega (arith, length_faces_to a.triangles.now c.loop-triangle.triangle-index (omega arith))
 
-pub overflow_add-i : goal.overflow_add-i
-overflow_add-i c = omega (arith, c.loop-i-test.true)
-
-pub loop-i-smaller : goal.loop-i-smaller
-loop-i-smaller c = omega (arith, c.loop-i-test.true)
-
-pub loop-i-preserved : goal.loop-i-preserved
-loop-i-preserved c =
-    let inv = c.loop-i.invariant in
-    let before = c.loop-i-test.true in
-    let adds = c.add_corners-next in
-    let keeps = c.keep_triangle-faces in
-    (omega arith, adds.auto.coords ∙ inv.1, keeps.auto.corners ∙ inv.2, keeps.auto.ends ∙ inv.3, done_next _ _ _ _ _ _ _ _ _ _ inv.4 before c.requires.triangles_value_2 _ _ adds.ensures _ _ _ keeps.ensures)
-
-pub shape_of-coords : goal.shape_of-coords
-shape_of-coords c = c.loop-i.invariant.1
-
-pub shape_of-corners : goal.shape_of-corners
-shape_of-corners c = c.loop-i.invariant.2
-
-pub shape_of-ends : goal.shape_of-ends
-shape_of-ends c = c.loop-i.invariant.3
+pub loop-triangle-preserved : goal.loop-triangle-preserved
+loop-triangle-preserved c =
+    let l = c.args.triangles.now in
+    let all = c.as_chunks.result.0.now in
+    let i = c.loop-triangle.triangle-index in
+    let e = c.as_chunks.ensures.front in
+    let h : i < length l / 9 = omega arith in
+    let start : 9 * i + 0 ≡ 9 * i = omega arith in
+    let adds = rw (corner l all i 0 e h (omega arith), corner l all i 3 e h (omega arith), corner l all i 6 e h (omega arith), start) at c.add_corners-t.ensures in
+    done_next _ _ _ _ _ _ _ _ _ _ c.loop-triangle.invariant h c.requires.triangles_value_2 _ _ _ adds _ _ _ c.keep_triangle.ensures
 
 pub returns : goal.returns
-returns c =
-    let l = c.args.triangles.now in
-    done_all _ _ _ _ _ _ _ _ _ _ c.loop-i.invariant.4 (whole_passed l c.requires.triangles_value).0 (omega arith)
+returns c = done_all _ _ _ _ _ _ _ _ _ _ c.loop-triangle.invariant (whole_passed c.args.triangles.now c.requires.triangles_value).0 (omega arith)
