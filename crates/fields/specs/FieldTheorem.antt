@@ -2,13 +2,13 @@
 use Prim.Native.Nat.{ℕ, zero, suc, ◌+◌, ◌-◌, ◌*◌, ◌/◌, ◌%◌, ◌^◌, ◌≤◌, ◌<◌}
 use Rattle.std.proofs.Math.Nat.{add-zero, add-suc}
 use Rattle.std.proofs.Common.{pow-suc, add-one, arith, sym, ap, ◌∙◌, true≢false, append_assoc, length-append, take-suc, take_all}
-use Rattle.std.specs.Prelude.{◌≡◌, refl, Bool, true, false, not, cond, ◌&&◌, ◌||◌, List, [], ◌∷◌, ◌++◌, eqb, leb, length, take, drop, replicate}
+use Rattle.std.specs.Prelude.{◌≡◌, refl, Bool, true, false, not, cond, ◌&&◌, ◌||◌, Some, None, List, [], ◌∷◌, ◌++◌, eqb, leb, length, take, drop, replicate}
 use Rattle.std.proofs.Math.ListN.{get_or}
 use Rattle.std.proofs.lemmas.List.{length-replicate}
 use borrow.Author.Tests.{eqb-true, eqb-false, leb-true, leb-false, le-leb, ne_eqb, not-true}
 use Rattle.refusal.specs.Verdicts.{both}
-use Rattle.fields.specs.declared.Field.TheVariants.{Bad, Number}
-use Rattle.fields.specs.Fields.{blank, minus, digit0, before, field_text, without_blanks, all_digits, value_from, is_whole, magnitude_of, number_of, field_of}
+use Rattle.fields.specs.declared.Number.{Number}
+use Rattle.fields.specs.Fields.{number, blank, minus, digit0, before, field_text, without_blanks, all_digits, value_from, is_whole, magnitude_of, number_of, field_of}
 use Rattle.fields.specs.FieldLaws.{next_digit, before_blanks}
 
 -- one more digit
@@ -101,29 +101,30 @@ blanks (b ∷ f) = pick (eqb b blank) refl (blanks f)
 -- ---- what is read is what is written
 
 -- digits behind w places
-magnitude_written : (said negative : Bool) (ds : List ℕ) (n w : ℕ) → magnitude_of negative ds ≡ Number said n → (said ≡ negative) × (before negative w ++ ds ≡ field_text said (w + length ds) n)
+magnitude_written : (said negative : Bool) (ds : List ℕ) (n w : ℕ) → magnitude_of negative ds ≡ Some (number said n) → (said ≡ negative) × (before negative w ++ ds ≡ field_text said (w + length ds) n)
 unfolding magnitude_of
 magnitude_written said negative ds n w e = pick (is_whole ds && not (negative && eqb (value_from 0 ds) 0)) refl e
   where
-    pick : (t : Bool) → (is_whole ds && not (negative && eqb (value_from 0 ds) 0)) ≡ t → cond t (Number negative (value_from 0 ds)) Bad ≡ Number said n → (said ≡ negative) × (before negative w ++ ds ≡ field_text said (w + length ds) n)
+    pick : (t : Bool) → (is_whole ds && not (negative && eqb (value_from 0 ds) 0)) ≡ t → cond t (Some (number negative (value_from 0 ds))) None ≡ Some (number said n) → (said ≡ negative) × (before negative w ++ ds ≡ field_text said (w + length ds) n)
     pick true t p =
         let whole = (both (is_whole ds) _ t).0 in
-        let sign : said ≡ negative = cc in
-        let value : n ≡ value_from 0 ds = cc in
+        let same : number said n ≡ number negative (value_from 0 ds) = cc in
+        let sign = ap (λ (x : Number). x.negative) same in
+        let value = ap (λ (x : Number). x.magnitude) same in
         rw (sign, value) (refl, sym (whole_written ds whole negative w))
     pick false t p =
         let wrong : ◌≡◌ {A = ℕ} 0 1 = cc in
         absurd (omega (arith, wrong))
 
 -- a number behind k blanks
-number_written : (g : List ℕ) (k : ℕ) (negative : Bool) (n : ℕ) → number_of g ≡ Number negative n → replicate k blank ++ g ≡ field_text negative (k + length g) n
+number_written : (g : List ℕ) (k : ℕ) (negative : Bool) (n : ℕ) → number_of g ≡ Some (number negative n) → replicate k blank ++ g ≡ field_text negative (k + length g) n
 unfolding number_of before
 number_written [] k negative n e =
     let wrong : ◌≡◌ {A = ℕ} 0 1 = cc in
     absurd (omega (arith, wrong))
 number_written (b ∷ g) k negative n e = pick (eqb b minus) refl e
   where
-    pick : (t : Bool) → eqb b minus ≡ t → cond t (magnitude_of true g) (magnitude_of false (b ∷ g)) ≡ Number negative n → replicate k blank ++ (b ∷ g) ≡ field_text negative (k + length (b ∷ g)) n
+    pick : (t : Bool) → eqb b minus ≡ t → cond t (magnitude_of true g) (magnitude_of false (b ∷ g)) ≡ Some (number negative n) → replicate k blank ++ (b ∷ g) ≡ field_text negative (k + length (b ∷ g)) n
     pick true t p =
         let found = (magnitude_written negative true g n (suc k) p).1 in
         let width : suc k + length g ≡ k + suc (length g) = omega arith in
@@ -133,7 +134,7 @@ number_written (b ∷ g) k negative n e = pick (eqb b minus) refl e
         rw (before_blanks k) at found
 
 -- what a field says is what is written there
-pub read_is_written : (f : List ℕ) (negative : Bool) (n : ℕ) → field_of f ≡ Number negative n → f ≡ field_text negative (length f) n
+pub read_is_written : (f : List ℕ) (negative : Bool) (n : ℕ) → field_of f ≡ Some (number negative n) → f ≡ field_text negative (length f) n
 unfolding field_of
 read_is_written f negative n e =
     let k = (blanks f).count in
@@ -214,24 +215,24 @@ strip zero b l differs = rw (ne_eqb b blank differs)
 strip (suc k) b l differs = strip k b l differs
 
 -- digits are a number
-read_digits : (negative : Bool) (ds : List ℕ) (n : ℕ) → is_whole ds ≡ true → value_from 0 ds ≡ n → (negative && eqb n 0) ≡ false → magnitude_of negative ds ≡ Number negative n
+read_digits : (negative : Bool) (ds : List ℕ) (n : ℕ) → is_whole ds ≡ true → value_from 0 ds ≡ n → (negative && eqb n 0) ≡ false → magnitude_of negative ds ≡ Some (number negative n)
 unfolding magnitude_of
 read_digits negative ds n whole value some = rw (whole, value, some)
 
-read_behind : (k : ℕ) (ds : List ℕ) (n : ℕ) → is_whole ds ≡ true → value_from 0 ds ≡ n → field_of (replicate k blank ++ ds) ≡ Number false n
+read_behind : (k : ℕ) (ds : List ℕ) (n : ℕ) → is_whole ds ≡ true → value_from 0 ds ≡ n → field_of (replicate k blank ++ ds) ≡ Some (number false n)
 unfolding field_of number_of is_whole
 read_behind k [] n whole value = absurd (true≢false (sym whole))
 read_behind k (d ∷ ds) n whole value =
     let digit = (next_digit (d ∷ ds) 0 (omega arith) (parts (d ∷ ds) whole).1).0 in
     rw (strip k d ds (λ e. omega (arith, e, digit)), ne_eqb d minus (λ e. omega (arith, e, digit))) (read_digits false (d ∷ ds) n whole value refl)
 
-read_behind_minus : (k : ℕ) (ds : List ℕ) (n : ℕ) → is_whole ds ≡ true → value_from 0 ds ≡ n → 1 ≤ n → field_of (replicate k blank ++ (minus ∷ ds)) ≡ Number true n
+read_behind_minus : (k : ℕ) (ds : List ℕ) (n : ℕ) → is_whole ds ≡ true → value_from 0 ds ≡ n → 1 ≤ n → field_of (replicate k blank ++ (minus ∷ ds)) ≡ Some (number true n)
 unfolding field_of number_of
 read_behind_minus k ds n whole value some =
     rw (strip k minus ds (λ e. omega (arith, e))) (read_digits true ds n whole value (ne_eqb n 0 (λ e. omega (arith, e, some))))
 
 -- a number that is not negative and fits its field is read
-pub written_is_read : (width n : ℕ) → n < 10 ^ suc width → field_of (field_text false (suc width) n) ≡ Number false n
+pub written_is_read : (width n : ℕ) → n < 10 ^ suc width → field_of (field_text false (suc width) n) ≡ Some (number false n)
 written_is_read width n fits =
     let digits = digits_of width n fits in
     let ds = digits.ds in
@@ -241,7 +242,7 @@ written_is_read width n fits =
     rw text (read_behind k ds n digits.whole digits.value)
 
 -- and so is a negative one, with a place for its minus
-pub negative_is_read : (width n : ℕ) → 1 ≤ n → n < 10 ^ suc width → field_of (field_text true (suc (suc width)) n) ≡ Number true n
+pub negative_is_read : (width n : ℕ) → 1 ≤ n → n < 10 ^ suc width → field_of (field_text true (suc (suc width)) n) ≡ Some (number true n)
 unfolding before
 negative_is_read width n some fits =
     let digits = digits_of width n fits in

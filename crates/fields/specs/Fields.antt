@@ -1,8 +1,7 @@
 -- Numbers in fields of a fixed width (document 01, Column text): right-justified in decimal, with blanks before them, a minus against the first digit, no leading
 -- zeros and no minus zero. How a number is written, and how a field is read. Definitions only.
-use Rattle.std.specs.Prelude.{ℕ, zero, suc, ◌+◌, ◌-◌, ◌*◌, ◌/◌, ◌%◌, Bool, true, false, not, cond, ◌&&◌, ◌||◌, List, [], ◌∷◌, ◌++◌, eqb, leb, length, get_or, replicate}
-use Rattle.fields.specs.declared.Field.{Field}
-use Rattle.fields.specs.declared.Field.TheVariants.{Bad, Number}
+use Rattle.std.specs.Prelude.{ℕ, zero, suc, ◌+◌, ◌-◌, ◌*◌, ◌/◌, ◌%◌, Bool, true, false, not, cond, ◌&&◌, ◌||◌, Option, Some, None, List, [], ◌∷◌, ◌++◌, eqb, leb, length, get_or, replicate}
+use Rattle.fields.specs.declared.Number.{Number}
 
 -- the bytes of a blank, a line feed, a minus and the digit 0
 abbrev pub blank : ℕ
@@ -32,6 +31,10 @@ field_text negative (suc width) magnitude =
 
 -- ---- reading
 
+-- a number, negative or not
+abbrev pub number : Bool → ℕ → Number
+number negative magnitude = record { negative = negative; magnitude = magnitude }
+
 -- a field without the blanks before its number
 unfoldable pub without_blanks : List ℕ → List ℕ
 without_blanks [] = []
@@ -52,15 +55,15 @@ unfoldable pub is_whole : List ℕ → Bool
 is_whole bytes = leb 1 (length bytes) && (all_digits bytes && (eqb (length bytes) 1 || not (eqb (get_or bytes 0 0) digit0)))
 
 -- the digits of a number, negative or not; there is no minus zero
-unfoldable pub magnitude_of : Bool → List ℕ → Field
+unfoldable pub magnitude_of : Bool → List ℕ → Option Number
 magnitude_of negative digits =
-    cond (is_whole digits && not (negative && eqb (value_from 0 digits) 0)) (Number negative (value_from 0 digits)) Bad
+    cond (is_whole digits && not (negative && eqb (value_from 0 digits) 0)) (Some (number negative (value_from 0 digits))) None
 
 -- a number: a minus if it is negative, then its digits
-unfoldable pub number_of : List ℕ → Field
-number_of [] = Bad
+unfoldable pub number_of : List ℕ → Option Number
+number_of [] = None
 number_of (b ∷ rest) = cond (eqb b minus) (magnitude_of true rest) (magnitude_of false (b ∷ rest))
 
--- what a field says
-unfoldable pub field_of : List ℕ → Field
+-- what a field says: a number, or none if it is bad
+unfoldable pub field_of : List ℕ → Option Number
 field_of bytes = number_of (without_blanks bytes)

@@ -2,43 +2,28 @@
 // specs/Fields.antt.
 #![tactic(auto)]
 
-ghost use Rattle.std.specs.Prelude.{◌≡◌, true, false, ◌≤◌, length, drop, replicate};
+ghost use Rattle.std.specs.Prelude.{◌≡◌, true, false, ◌≤◌, length, drop};
 ghost use Rattle.fields.specs.Fields as Fields;
 
-// What a field says.
+// A number that a field says.
 #[derive(Clone, Copy)]
-pub enum Field {
-    Bad,
-    Number { negative: bool, magnitude: u64 },
+pub struct Number {
+    pub negative: bool,
+    pub magnitude: u64,
 }
 
 // How many blanks stand before the number.
 fn skip_blanks(field: &[u8]) -> usize
     ensures { (result ≤ length field.now) × (drop result field.now ≡ Fields.without_blanks field.now) }
 {
-    let mut i = 0;
-    while i < field.len() {
-        if field[i] != b' ' {
-            return i;
-        }
-        i += 1;
-    }
-    i
+    field.iter().position(|b| *b != b' ').unwrap_or(field.len())
 }
 
 // Whether every byte is a digit.
 fn all_digits(bytes: &[u8]) -> bool
     ensures { result ≡ Fields.all_digits bytes.now }
 {
-    let mut i = 0;
-    while i < bytes.len() {
-        let b = bytes[i];
-        if !((48 <= b) & (b <= 57)) {
-            return false;
-        }
-        i += 1;
-    }
-    true
+    bytes.iter().all(|b| (48 <= *b) & (*b <= 57))
 }
 
 // The number that digits say.
@@ -47,15 +32,14 @@ fn value_of(digits: &[u8]) -> u64
     ensures { result ≡ Fields.value_from 0 digits.now }
 {
     let mut read: u64 = 0;
-    let mut i = 0;
-    while i < digits.len() {
-        read = read * 10 + (digits[i] - 48) as u64;
-        i += 1;
+    for digit in digits {
+        read = read * 10 + u64::from(*digit - 48);
     }
     read
 }
 
 // Whether these bytes are a whole number.
+#[tactic(auto, unfolding(crate::specs::Fields::is_whole))]
 fn is_whole(bytes: &[u8]) -> bool
     ensures { result ≡ Fields.is_whole bytes.now }
 {
@@ -67,31 +51,32 @@ fn is_whole(bytes: &[u8]) -> bool
 }
 
 // The digits of a number, negative or not.
-fn magnitude_of(negative: bool, bytes: &[u8]) -> Field
+#[tactic(auto, using(crate::specs::FieldLaws::whole_digits), unfolding(crate::specs::Fields::magnitude_of))]
+fn magnitude_of(negative: bool, bytes: &[u8]) -> Option<Number>
     requires { length bytes.now ≤ 18 }
     ensures { result ≡ Fields.magnitude_of negative bytes.now }
 {
     if !is_whole(bytes) {
-        return Field::Bad;
+        return None;
     }
     let magnitude = value_of(bytes);
     if negative & (magnitude == 0) {
-        return Field::Bad;
+        return None;
     }
-    Field::Number {
-        negative: negative,
-        magnitude: magnitude,
-    }
+    Some(Number {
+        negative,
+        magnitude,
+    })
 }
 
 // What a field says.
-pub fn read_field(field: &[u8]) -> Field
+pub fn read_field(field: &[u8]) -> Option<Number>
     requires { length field.now ≤ 18 }
     ensures { result ≡ Fields.field_of field.now }
 {
     let i = skip_blanks(field);
     if i == field.len() {
-        return Field::Bad;
+        return None;
     }
     if field[i] == b'-' {
         return magnitude_of(true, &field[i + 1..]);
@@ -99,29 +84,16 @@ pub fn read_field(field: &[u8]) -> Field
     magnitude_of(false, &field[i..])
 }
 
-// Fills a field with blanks.
-fn fill_blanks(field: &mut [u8])
-    ensures { field.new ≡ replicate (length field.old) Fields.blank }
-{
-    let mut i = 0;
-    while i < field.len() {
-        field[i] = b' ';
-        i += 1;
-    }
-}
-
 // Writes a number at the end of a field, with blanks before it.
 pub fn write_field(n: u64, field: &mut [u8])
     ensures { field.new ≡ Fields.field_text false (length field.old) n }
 {
     let mut rest = n;
-    let mut i = field.len();
-    while i > 0 {
-        i -= 1;
+    for i in (0..field.len()).rev() {
         field[i] = 48 + (rest % 10) as u8;
         rest /= 10;
         if rest == 0 {
-            fill_blanks(&mut field[..i]);
+            field[..i].fill(b' ');
             return;
         }
     }
