@@ -10,6 +10,10 @@ use Rattle.fields.specs.Fields.{blank, minus, digit0, before, field_text, withou
 
 -- from byte i on
 module _ (l : List ℕ) (i : ℕ) (h : i < length l) where
+  pub without_blanks_next : without_blanks (drop i l) ≡ cond (eqb (get_or l i 0) blank) (without_blanks (drop (i + 1) l)) (drop i l)
+  unfolding without_blanks
+  without_blanks_next = rw (add-one i, drop-cons l i 0 h)
+
   pub all_digits_next : all_digits (drop i l) ≡ (leb digit0 (get_or l i 0) && leb (get_or l i 0) (digit0 + 9) && all_digits (drop (i + 1) l))
   unfolding all_digits
   all_digits_next = rw (add-one i, drop-cons l i 0 h)

@@ -1,11 +1,12 @@
 -- The laws of the lines of a text: where each begins, and what one more line adds to the counts.
-use Rattle.std.specs.Prelude.{ℕ, zero, suc, ◌+◌, ◌-◌, ◌*◌, ◌/◌, ◌≤◌, ◌<◌, ◌≡◌, refl, true, cond, List, [], ◌∷◌, ◌++◌, ltb, length, get_or, take, drop}
-use Rattle.std.proofs.Common.{arith, sym, ◌∙◌, length-drop, length-append, length-take-le, drop-cons, drop-drop, take-take, take-add, take_at, drop_at, ltb-true}
+use Rattle.std.specs.Prelude.{ℕ, zero, suc, min, ◌+◌, ◌-◌, ◌*◌, ◌/◌, ◌≤◌, ◌<◌, ◌≡◌, refl, Bool, true, false, cond, ◌&&◌, Option, Some, None, Err, List, [], ◌∷◌, ◌++◌, ltb, length, get_or, take, drop}
+use Rattle.std.proofs.Common.{arith, sym, ◌∙◌, length-drop, length-append, length-take-le, drop-cons, drop-drop, take-take, take-add, take_at, drop_at, ltb-true, ap, append-nil, take_all, drop_of_length-le, inl, inr}
+use Rattle.std.proofs.lemmas.Bool.{cases_lt}
+use Rattle.std.proofs.lemmas.List.{nil_from_length}
 use Rattle.refusal.specs.Verdicts.{both}
 use Rattle.text.specs.declared.Kind.{Kind}
 use Rattle.text.specs.declared.Kind.TheVariants as Kinds
 use Rattle.text.specs.declared.Counts.{Counts}
-use Rattle.text.specs.declared.Judged.TheVariants.{BadLine}
 use Rattle.text.specs.Lines.{kind_of, lines_of, lines, lines_in, fits, may_follow, counted, judge}
 
 -- line i of a text, from 0
@@ -26,23 +27,49 @@ lines_cons text h =
 
 -- judging goes on with the line that begins at this byte
 pub judge_next : (first : ℕ) (counts : Counts) (text : List ℕ) (start : ℕ) → start < length text
-    → judge first counts (lines (drop start text)) ≡ cond (may_follow counts (kind_of (take 36 (drop start text)))) (judge first (counted counts (kind_of (take 36 (drop start text)))) (lines (drop (start + 36) text))) (BadLine (first + lines_in counts))
+    → judge first counts (lines (drop start text)) ≡ cond (may_follow counts (kind_of (take 36 (drop start text)))) (judge first (counted counts (kind_of (take 36 (drop start text)))) (lines (drop (start + 36) text))) (Err (first + lines_in counts))
 unfolding judge
 judge_next first counts text start h =
     rw (lines_cons (drop start text) (omega (arith, length-drop start text)), drop-drop 36 start text)
 
+-- and with the first chunk of 36 bytes, or of what is left
+pub judge_chunk : (first : ℕ) (counts : Counts) (text line rest : List ℕ) → text ≡ line ++ rest → length line ≡ min 36 (length text) → 0 < length text
+    → judge first counts (lines text) ≡ cond (may_follow counts (kind_of line)) (judge first (counted counts (kind_of line)) (lines rest)) (Err (first + lines_in counts))
+judge_chunk first counts text line rest parts long h =
+    let sum = ap length parts ∙ length-append line rest in
+    let cut : (take 36 text ≡ line) × (drop 36 text ≡ rest) =
+    elim (cases_lt (length text) 36) [
+      | inl short ↦
+          let none : rest ≡ [] = nil_from_length rest (omega arith) in
+          rw (parts, none, append-nil) (take_all 36 line (omega arith), drop_of_length-le line {i = 36} (omega arith))
+      | inr enough ↦
+          let width : length line ≡ 36 = omega arith in
+          rw parts (take_at line rest 36 width, drop_at line rest 36 width)
+    ] in
+    let next = judge_next first counts text 0 h in
+    rw (cut.0, cut.1) at next
+
+-- a bad line may not follow
+pub bad_refused : (counts : Counts) → may_follow counts None ≡ false
+unfolding may_follow fits
+bad_refused counts = neither (ltb (lines_in counts) 1024)
+  where
+    neither : (t : Bool) → (t && false) ≡ false
+    neither true = refl
+    neither false = refl
+
 -- a line that may follow is one more, and there are no more than 1,024
-pub counted_next : (counts : Counts) (kind : Kind) → may_follow counts kind ≡ true → (lines_in counts < 1024) × (lines_in (counted counts kind) ≡ lines_in counts + 1)
+pub counted_next : (counts : Counts) (kind : Option Kind) → may_follow counts kind ≡ true → (lines_in counts < 1024) × (lines_in (counted counts kind) ≡ lines_in counts + 1)
 unfolding may_follow fits lines_in counted
 counted_next counts kind e =
     let parts = both (ltb (lines_in counts) 1024) (fits counts kind) e in
     (ltb-true _ _ parts.0, more kind parts.1)
   where
-    more : (kind : Kind) → fits counts kind ≡ true → lines_in (counted counts kind) ≡ lines_in counts + 1
-    more Kinds.Bad e = cc
-    more Kinds.Vertex e = omega arith
-    more Kinds.Triangle e = omega arith
-    more Kinds.Point e = omega arith
+    more : (kind : Option Kind) → fits counts kind ≡ true → lines_in (counted counts kind) ≡ lines_in counts + 1
+    more None e = cc
+    more (Some Kinds.Vertex) e = omega arith
+    more (Some Kinds.Triangle) e = omega arith
+    more (Some Kinds.Point) e = omega arith
 
 -- how many lines a text has
 length_lines_of : (n : ℕ) (text : List ℕ) → length (lines_of n text) ≡ n

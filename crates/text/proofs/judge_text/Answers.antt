@@ -1,57 +1,44 @@
-use native.Mathlib.Omega.{arith}
-use mathlib.Core.Path.{refl, sym, ◌∙◌}
-use lib.ListN.{drop, length-drop}
-use Rattle.text.specs.Lines.{none, lines_in, judge}
-use Rattle.text.specs.LineLaws.{lines_nil, judge_next, counted_next}
+-- `judge_text` meets its contract, line by line.
+use Rattle.std.proofs.Common.{rules, ◌≡◌, true, false, Some, None, arith, sym, ◌∙◌}
+use Rattle.std.specs.Slice.Iter.{chunks_rest}
+use Rattle.text.specs.Lines.{none, lines_in, kind_of, may_follow, judge}
+use Rattle.text.specs.LineLaws.{lines_nil, judge_chunk, bad_refused, counted_next}
 use Rattle.text.proofs.judge_text.Goals as goal
+use Rattle.text.proofs.judge_text.Goals.{in_default-via-in-Some-judge_line+else-may_follow, in_default-via-in_default}
 
-pub loop-start-init : goal.loop-start-init
+pub loop-line-init : goal.loop-line-init
 unfolding none lines_in
-loop-start-init c = (refl, omega arith, refl)
+loop-line-init c = (search rules, tt, search rules, omega arith, search rules)
 
-pub kind_at-kind-requires : goal.kind_at-kind-requires
-kind_at-kind-requires c = omega arith
+pub loop-line-preserved : goal.loop-line-preserved
+loop-line-preserved c =
+    let line = c.in-Some.line.now in
+    let counts = c.loop-line.counts in
+    let steps = c.in-Some.ensures.steps in
+    let size = c.loop-line.invariant.2 in
+    let next = judge_chunk c.args.first counts (chunks_rest c.loop-line.line-iterator) line (chunks_rest c.next.new.self) steps.1.0 (rw size at steps.1.1) steps.1.2 in
+    let kind : kind_of line ≡ Some c.in-Some-judge_line.kind = sym c.judge_line.ensures ∙ c.in-Some-judge_line.is in
+    let follows : may_follow counts (Some c.in-Some-judge_line.kind) ≡ true = sym c.may_follow.ensures ∙ c.if-may_follow.true in
+    let more = counted_next counts (Some c.in-Some-judge_line.kind) follows in
+    rw c.counted-counts.ensures (omega (arith, steps.0, size), tt, steps.0 ∙ size, omega (arith, more.0, more.1), sym (rw (kind, follows) at next) ∙ c.loop-line.invariant.4)
 
-pub may_follow-requires : goal.may_follow-requires
-may_follow-requires c = c.loop-start.invariant.1
-
-pub lines_in-requires : goal.lines_in-requires
-lines_in-requires c = c.loop-start.invariant.1
-
-pub overflow_cast-result : goal.overflow_cast-result
-overflow_cast-result c = omega (arith, c.lines_in.ensures, c.loop-start.invariant.1)
-
-pub overflow_add-result : goal.overflow_add-result
-overflow_add-result c = omega (arith, c.lines_in.ensures, c.loop-start.invariant.1, c.requires)
-
-pub returns-then-not-may_follow : goal.returns-then-not-may_follow
-returns-then-not-may_follow c =
-    let next = judge_next c.args.first c.loop-start.counts c.args.text.now c.loop-start.start (omega arith) in
-    let refused = c.if-not-may_follow.true in
-    rw c.lines_in.ensures (sym (rw (← c.kind_at-kind.ensures, ← c.may_follow.ensures, refused) at next) ∙ c.loop-start.invariant.2)
-
-pub counted-counts-requires : goal.counted-counts-requires
-counted-counts-requires c = c.loop-start.invariant.1
-
-pub overflow_add-start : goal.overflow_add-start
-overflow_add-start c = omega (arith, c.loop-start.invariant.0, c.loop-start.invariant.1)
-
-pub loop-start-smaller : goal.loop-start-smaller
-loop-start-smaller c = omega arith
-
-pub loop-start-preserved : goal.loop-start-preserved
-loop-start-preserved c =
-    let next = judge_next c.args.first c.loop-start.counts c.args.text.now c.loop-start.start (omega arith) in
-    let follows = c.if-not-may_follow.false in
-    let more = counted_next c.loop-start.counts c.kind_at-kind.result (sym c.may_follow.ensures ∙ follows) in
-    rw c.counted-counts.ensures (
-      omega (arith, c.loop-start.invariant.0, more.1),
-      omega (arith, more.0, more.1),
-      sym (rw (← c.kind_at-kind.ensures, ← c.may_follow.ensures, follows) at next) ∙ c.loop-start.invariant.2,
-    )
+pub returns-in_default : goal.returns-in_default
+returns-in_default c =
+    let line = c.in-Some.line.now in
+    let counts = c.loop-line.counts in
+    let steps = c.in-Some.ensures.steps in
+    let next = judge_chunk c.args.first counts (chunks_rest c.loop-line.line-iterator) line (chunks_rest c.next.new.self) steps.1.0 (rw c.loop-line.invariant.2 at steps.1.1) steps.1.2 in
+    elim c.in_default.branch [
+      | in_default-via-in-Some-judge_line+else-may_follow w ↦
+          let kind : kind_of line ≡ Some w.in-Some-judge_line.kind = sym c.judge_line.ensures ∙ w.in-Some-judge_line.is in
+          let refused : may_follow counts (Some w.in-Some-judge_line.kind) ≡ false = sym w.may_follow.ensures ∙ w.if-may_follow.false in
+          rw c.lines_in.ensures (sym (rw (kind, refused) at next) ∙ c.loop-line.invariant.4)
+      | in_default-via-in_default w ↦
+          let bad : kind_of line ≡ None = sym c.judge_line.ensures ∙ w.in_default.is in
+          rw c.lines_in.ensures (sym (rw (bad, bad_refused counts) at next) ∙ c.loop-line.invariant.4)
+    ]
 
 pub returns : goal.returns
 unfolding judge
 returns c =
-    let long = length-drop c.loop-start.start c.args.text.now in
-    rw (lines_nil (drop c.loop-start.start c.args.text.now) (omega (arith, long))) at c.loop-start.invariant.2
+    rw (lines_nil (chunks_rest c.loop-line.line-iterator) c.in-None.ensures.steps.1.0) at c.loop-line.invariant.4
