@@ -18,6 +18,7 @@ fn write_line(width: usize, a: u64, b: u64, line: &mut [u8])
 }
 
 // Writes the header of a listing.
+#[tactic(auto, unfolding(crate::specs::Listing::header, lent::specs::Over::over))]
 pub fn write_header(number: u64, place: u64, listing: &mut [u8])
     requires { 10 ≤ length listing.old }
     ensures { listing.new ≡ over (Listing.header number place) listing.old }
@@ -30,19 +31,18 @@ fn write_rows(answers: &[u8], rows: &mut [u8])
     requires { (length answers.now ≤ 512) × (10 * length answers.now ≤ length rows.old) }
     ensures { rows.new ≡ over (Listing.rows 0 answers.now) rows.old }
 {
-    let mut i = 0;
-    while i < answers.len() {
+    for (i, answer) in answers.iter().enumerate() {
         write_line(
             6,
             i as u64,
-            answers[i] as u64,
+            u64::from(*answer),
             &mut rows[10 * i..10 * i + 10],
         );
-        i += 1;
     }
 }
 
 // Writes the listing of these answers.
+#[tactic(auto, unfolding(crate::specs::Listing::listing_length))]
 pub fn write_listing(answers: &[u8], listing: &mut [u8])
     requires { (length answers.now ≤ 512) × (Listing.listing_length (length answers.now) ≤ length listing.old) }
     ensures { listing.new ≡ over (Listing.listing_text answers.now) listing.old }

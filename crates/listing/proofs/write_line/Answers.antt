@@ -7,22 +7,8 @@ use mathlib.Core.List.{◌++◌}
 use lib.ListN.{length, take, drop, length-append, length-take, length-drop}
 use lib.Seq.{length-take-le}
 use Rattle.fields.specs.Fields.{field_text}
-use Rattle.listing.specs.ListingLaws.{length_field, length_line, line_written}
+use Rattle.listing.specs.ListingLaws.{length_field, line_written}
 use Rattle.listing.proofs.write_line.Goals as goal
-
-pub slice_bounds-write_field-end-2 : goal.slice_bounds-write_field-end-2
-slice_bounds-write_field-end-2 c = simp length-take (omega arith)
-
-pub shape_of-line : goal.shape_of-line
-shape_of-line c =
-    let line = c.args.line.now in
-    let width = c.args.width in
-    let a = c.args.a in
-    let b = c.args.b in
-    let first = rw (length-take-le width line (omega arith)) at c.write_field.ensures in
-    let long : length (take (9 - width) (drop width (field_text false width a ++ drop width line))) ≡ 9 - width = simp (length-take, length-drop, length-append) (omega (arith, length_field false width a)) in
-    let second = rw (first, long) at c.write_field-2.ensures in
-    rw (first, second, line_written width a b line (omega arith) (omega arith)) (omega (arith, length_line width a b (omega arith)))
 
 pub returns : goal.returns
 returns c =

@@ -3,21 +3,10 @@ use Prim.Native.Nat.{◌+◌, ◌-◌, ◌*◌}
 use native.Mathlib.Omega.{arith}
 use mathlib.Core.Path.{◌≡◌}
 use lib.ListN.{length}
-use Rattle.lent.specs.Over.{length_over, over_on}
-use Rattle.listing.specs.Listing.{header, rows, listing_text, listing_length}
+use Rattle.lent.specs.Over.{over_on}
+use Rattle.listing.specs.Listing.{header, rows, listing_text}
 use Rattle.listing.specs.ListingLaws.{length_line, length_rows}
 use Rattle.listing.proofs.write_listing.Goals as goal
-
-pub write_header-requires : goal.write_header-requires
-unfolding listing_length
-write_header-requires c = omega (arith, c.requires.1)
-
-pub slice_bounds-write_rows-end : goal.slice_bounds-write_rows-end
-unfolding listing_length header
-slice_bounds-write_rows-end c =
-    let listing = c.args.listing.now in
-    let kept = length_over (header 0 0) listing (omega (arith, length_line 3 0 0 (omega arith), c.requires.1)) in
-    rw c.write_header.ensures (omega (arith, kept, c.requires.1))
 
 pub returns : goal.returns
 unfolding listing_text header
