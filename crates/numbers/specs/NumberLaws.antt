@@ -1,8 +1,9 @@
 -- The laws of what the numbers of a text become: the loops that write them, and that floats are the counts unchanged.
-use Rattle.std.specs.Prelude.{ℕ, zero, suc, ◌+◌, ◌*◌, ◌≤◌, ◌<◌, ◌≡◌, Bool, true, false, Float, length, take, set}
+use Rattle.std.specs.Prelude.{ℕ, zero, suc, ◌+◌, ◌*◌, ◌/◌, ◌≤◌, ◌<◌, ◌≡◌, Bool, true, false, Option, Some, None, Float, length, get_or, take, drop, set}
 use Rattle.std.proofs.Common.{add-zero, zero-add, suc-add, arith, sym, ◌∙◌, true≢false, length-take-le, leb-true}
 use Rattle.std.proofs.Math.Path.{refl}
 use mathlib.Core.List.{List, [], ◌∷◌, ◌++◌}
+use Rattle.std.specs.Simd.{first_chunks}
 use Rattle.std.specs.Float.{nan, inf, fin, binary64}
 use Rattle.std.specs.Float.Ieee.{neg, of_int}
 use Rattle.std.specs.Float.Ieee.Exact.{HasValue}
@@ -15,14 +16,37 @@ use Rattle.refusal.specs.declared.Refusal.{Refusal}
 use Rattle.mesh_questions.specs.Questions.{ask_finite}
 use Rattle.lent.specs.ReorderedLaws.{Every, every_at}
 use Rattle.lent.specs.Over.{over, over_behind, over_three, over_next, length_over}
-use Rattle.fields.specs.declared.Field.{Field}
-use Rattle.fields.specs.declared.Field.TheVariants.{Bad, Number}
-use Rattle.text.specs.Lines.{number_at, lines, is_count, all_three}
+use Rattle.fields.specs.declared.Number.{Number}
+use Rattle.fields.specs.Fields.{number}
+use Rattle.text.specs.Lines.{number_at, lines_of, lines, is_count, all_three}
 use Rattle.text.specs.LineLaws.{line_at, lines_next, length_lines, lines_get}
 use Rattle.text.specs.Accepted.{three}
 use Rattle.numbers.specs.Numbers.{float_of, numbers_of, ends_from, Whole}
 
-module _ {A : Type 0} (become : Field → A) where
+-- the chunks of a text of whole lines are its lines
+chunks_are_lines : (n : ℕ) (text : List ℕ) → first_chunks 36 n text ≡ lines_of n text
+unfolding lines_of
+chunks_are_lines zero text = refl
+chunks_are_lines (suc n) text = rw (chunks_are_lines n (drop 36 text))
+
+pub whole_chunks : (text : List ℕ) → length text ≡ 36 * (length text / 36) → first_chunks 36 (length text / 36) text ≡ lines text
+unfolding lines
+whole_chunks text whole =
+    let count : (length text + 35) / 36 ≡ length text / 36 = omega (arith, whole) in
+    rw count (chunks_are_lines (length text / 36) text)
+
+pub chunk_at : (text : List ℕ) (chunks : List (List ℕ)) (i : ℕ) → chunks ≡ first_chunks 36 (length text / 36) text → length text ≡ 36 * (length text / 36) → i < length text / 36 → get_or chunks i [] ≡ line_at text i
+chunk_at text chunks i e whole h = rw (e, whole_chunks text whole) (lines_get text i (omega (arith, whole)))
+
+-- and the numbers of each pass the test that they are taken to pass
+pub chunk_passes : (test : Option Number → Bool) {places : ℕ} (text : List ℕ) (chunks : List (List ℕ)) (i : ℕ) → Whole test text places → chunks ≡ first_chunks 36 (length text / 36) text → i < length chunks
+    → (test (number_at 0 (get_or chunks i [])) ≡ true) × (test (number_at 1 (get_or chunks i [])) ≡ true) × (test (number_at 2 (get_or chunks i [])) ≡ true)
+chunk_passes test text chunks i w e h =
+    let count : length chunks ≡ length text / 36 = rw (e, whole_chunks text w.whole) (omega (arith, length_lines text, w.whole)) in
+    let below : i < length text / 36 = omega (arith, count) in
+    rw (chunk_at text chunks i e w.whole below) (three test (line_at text i) (w.each i below).1)
+
+module _ {A : Type 0} (become : Option Number → A) where
   -- lines one behind the other
   pub numbers_append : (a b : List (List ℕ)) → numbers_of become (a ++ b) ≡ numbers_of become a ++ numbers_of become b
   unfolding numbers_of
@@ -80,7 +104,7 @@ neg_value nan magnitude v = v
 neg_value (inf s) magnitude v = v
 neg_value (fin s m e) magnitude v = (rw v.0, v.1)
 
-pub float_value : (negative : Bool) (magnitude : ℕ) → magnitude ≤ 9999999999 → HasValue (float_of (Number negative magnitude)) negative magnitude 1
+pub float_value : (negative : Bool) (magnitude : ℕ) → magnitude ≤ 9999999999 → HasValue (float_of (Some (number negative magnitude))) negative magnitude 1
 unfolding float_of of_int
 float_value false magnitude h = round_whole binary64 false magnitude (omega arith)
 float_value true magnitude h = neg_value _ magnitude (round_whole binary64 false magnitude (omega arith))
@@ -92,11 +116,11 @@ value_finite nan negative magnitude v = absurd v
 value_finite (inf s) negative magnitude v = absurd v
 value_finite (fin s m e) negative magnitude v = refl
 
-pub count_finite : (field : Field) → is_count field ≡ true → is_finite (float_of field) ≡ true
+pub count_finite : (field : Option Number) → is_count field ≡ true → is_finite (float_of field) ≡ true
 unfolding is_count
-count_finite Bad e = absurd (true≢false (sym e))
-count_finite (Number negative magnitude) e =
-    value_finite (float_of (Number negative magnitude)) negative magnitude (float_value negative magnitude (leb-true magnitude 9999999999 e))
+count_finite None e = absurd (true≢false (sym e))
+count_finite (Some count) e =
+    value_finite (float_of (Some count)) count.negative count.magnitude (float_value count.negative count.magnitude (leb-true count.magnitude 9999999999 e))
 
 -- the points of lines of counts are finite
 finite_lines : (refusal : ℕ → Refusal) (number : ℕ) (l : List (List ℕ)) → Every (λ line. all_three is_count line ≡ true) l → ask_finite refusal number (points (numbers_of float_of l)) ≡ Passed

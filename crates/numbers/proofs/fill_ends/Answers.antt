@@ -1,30 +1,24 @@
-use native.Mathlib.Omega.{arith}
-use mathlib.Core.Path.{◌≡◌, refl, sym}
-use lib.ListN.{length-set}
-use Rattle.lent.specs.Over.{over_nothing}
+-- `fill_ends` meets its contract: each round stores one more end.
+use Rattle.std.proofs.Common.{◌≡◌, arith, sym, take, length, length-take-le}
+use Rattle.lent.specs.Over.{over, over_nothing, over_whole}
 use Rattle.numbers.specs.Numbers.{ends_from}
-use Rattle.numbers.specs.NumberLaws.{ends_stored}
+use Rattle.numbers.specs.NumberLaws.{length_ends, ends_stored}
 use Rattle.numbers.proofs.fill_ends.Goals as goal
 
 pub loop-i-init : goal.loop-i-init
 unfolding ends_from
-loop-i-init c = (omega arith, refl, sym (over_nothing c.args.ends.now))
-
-pub bounds-ends-i : goal.bounds-ends-i
-bounds-ends-i c = omega (arith, c.loop-i.invariant.1)
-
-pub loop-i-smaller : goal.loop-i-smaller
-loop-i-smaller c = omega arith
+loop-i-init c = sym (over_nothing (take c.args.triangles c.args.ends.now))
 
 pub loop-i-preserved : goal.loop-i-preserved
 loop-i-preserved c =
-    let old = c.args.ends.now in
-    (omega arith, simp length-set c.loop-i.invariant.1, rw c.loop-i.invariant.2 (ends_stored c.loop-i.i old (omega arith)))
-
-pub shape_of-ends : goal.shape_of-ends
-shape_of-ends c = c.loop-i.invariant.1
+    rw c.loop-i.invariant (ends_stored c.loop-i.i (take c.args.triangles c.args.ends.now) (omega arith))
 
 pub returns : goal.returns
+unfolding over
 returns c =
-    let all : c.loop-i.i ≡ c.args.triangles = omega arith in
-    rw all at c.loop-i.invariant.2
+    let n = c.args.triangles in
+    let front = take n c.args.ends.now in
+    let few : length front ≡ n = length-take-le n c.args.ends.now (omega arith) in
+    let all : c.loop-i.i ≡ n = omega arith in
+    let whole = over_whole (ends_from 0 n) front (omega (arith, length_ends 0 n)) in
+    rw (c.loop-i.invariant, all, whole, length_ends 0 n)
