@@ -1,10 +1,10 @@
 -- What leads from the steps of the column call to its promise.
-use Rattle.std.specs.Prelude.{ℕ, ◌+◌, ◌-◌, ◌*◌, ◌/◌, ◌%◌, ◌≤◌, ◌<◌, ◌≡◌, Bool, true, List, Float, drop}
+use Rattle.std.specs.Prelude.{ℕ, ◌+◌, ◌-◌, ◌*◌, ◌/◌, ◌%◌, ◌≤◌, ◌<◌, ◌≡◌, Bool, true, Option, Some, Result, Ok, Err, List, Float, drop}
 use Rattle.std.proofs.Common.{zero-add, arith, sym, ◌∙◌, take_all, length-take-le}
 use Rattle.std.proofs.Math.Path.{refl}
 use Rattle.std.proofs.Math.ListN.{length, take, length-drop}
 use borrow.Author.Tests.{le-leb, lt-leb, eq-eqb}
-use Rattle.std.specs.Prelude.{Ok, Err}
+use Rattle.std.specs.Result.{Ok, Err}
 use Rattle.lent.specs.Over.{over, over_nothing, take_over, length_over}
 use Rattle.refusal.specs.declared.Refusal.{Refusal}
 use Rattle.refusal.specs.declared.Refusal.TheVariants as Refusals
@@ -14,19 +14,16 @@ use Rattle.mesh.specs.Mesh.{Mesh}
 use Rattle.mesh_questions.specs.Questions.{ask_mesh, ask_finite}
 use Rattle.polyhedron.specs.Lists.{list_fits, ask_points, ask_list, answers_to}
 use Rattle.polyhedron.specs.ListLaws.{length_answers_to}
-use Rattle.fields.specs.declared.Field.{Field}
+use Rattle.fields.specs.declared.Number.{Number}
 use Rattle.text.specs.declared.Kind.{Kind}
 use Rattle.text.specs.declared.Kind.TheVariants as Kinds
 use Rattle.text.specs.declared.Counts.{Counts}
-use Rattle.text.specs.declared.Judged.TheVariants.{BadLine, Good}
-use Rattle.text.specs.Lines.{is_count, is_corner, all_three, kind_of, lines_in, lines}
+use Rattle.text.specs.Lines.{is_count, is_corner, is_of, all_three, numbers_fit, kind_of, lines_in, lines}
 use Rattle.text.specs.LineLaws.{line_at, length_lines, lines_take, lines_drop, section_line}
-use Rattle.text.specs.Accepted.{Accepted, accepted, is_good, numbers_fit, good_line}
+use Rattle.text.specs.Accepted.{Accepted, accepted, good_line}
 use Rattle.listing.specs.Listing.{listing_text, listing_length}
 use Rattle.listing.specs.ListingLaws.{length_listing}
 use Rattle.answers.specs.Answers.{Few}
-use Rattle.column.specs.declared.Listed.{Listed}
-use Rattle.column.specs.declared.Listed.TheVariants as Answers
 use Rattle.column.specs.Column.{mesh_of, points_of, ask_column, column_verdict, column_listing, judged, verdict, column_answer, listed, Lists}
 use Rattle.column.specs.Sections.{ListsAnswers}
 use Rattle.numbers.specs.Numbers.{float_of, corner_of, numbers_of, ends_from, Whole}
@@ -36,20 +33,20 @@ use Rattle.numbers.specs.NumberLaws.{length_numbers, length_ends, finite_section
 
 module _ (m : Mesh) (list : List Float) (places : ℕ) (listing₀ : List ℕ) where
   -- a refusal by 1 to 5
-  pub refused_mesh : (refusal : Refusal) → ask_mesh m.coords m.corners m.ends ≡ Err refusal → ListsAnswers m list places listing₀ (Answers.Refused refusal) listing₀
+  pub refused_mesh : (refusal : Refusal) → ask_mesh m.coords m.corners m.ends ≡ Err refusal → ListsAnswers m list places listing₀ (Err refusal) listing₀
   unfolding ask_column listed written
   refused_mesh refusal e = record { answer = rw e; listing = rw e (sym (over_nothing listing₀)) }
 
   module _ (passed : ask_mesh m.coords m.corners m.ends ≡ Passed) where
     -- a refusal by 6
-    pub refused_room : length listing₀ < listing_length places → ListsAnswers m list places listing₀ (Answers.Refused Refusals.Room) listing₀
+    pub refused_room : length listing₀ < listing_length places → ListsAnswers m list places listing₀ (Err Refusals.Room) listing₀
     unfolding ask_column listed written
     refused_room h =
         let short = lt-leb (listing_length places) (length listing₀) h in
         record { answer = rw (passed, short); listing = rw (passed, short) (sym (over_nothing listing₀)) }
 
     -- nothing is refused
-    pub listed_answers : (listing₁ : List ℕ) → listing_length places ≤ length listing₀ → listing₁ ≡ over (listing_text (answers_to m list)) listing₀ → ListsAnswers m list places listing₀ (Answers.Bytes (listing_length places)) listing₁
+    pub listed_answers : (listing₁ : List ℕ) → listing_length places ≤ length listing₀ → listing₁ ≡ over (listing_text (answers_to m list)) listing₀ → ListsAnswers m list places listing₀ (Ok (listing_length places)) listing₁
     unfolding ask_column listed written
     listed_answers listing₁ h e =
         let enough = le-leb (listing_length places) (length listing₀) h in
@@ -58,14 +55,14 @@ module _ (m : Mesh) (list : List Float) (places : ℕ) (listing₀ : List ℕ) w
 -- ---- the sections of an accepted text
 
 -- n lines of one kind behind the first k
-section_whole : (test : Field → Bool) (kind : Kind) (text : List ℕ) (k n places : ℕ) → is_good kind ≡ true → ((line : List ℕ) → numbers_fit kind line ≡ true → all_three test line ≡ true)
-    → 36 * (k + n) ≤ length text → ((i : ℕ) → i < n → kind_of (line_at text (k + i)) ≡ kind) → 3 * n ≤ places → Whole test (take (36 * n) (drop (36 * k) text)) places
-section_whole test kind text k n places good fit h each room =
+section_whole : (test : Option Number → Bool) (kind : Kind) (text : List ℕ) (k n places : ℕ) → ((line : List ℕ) → numbers_fit kind line ≡ true → all_three test line ≡ true)
+    → 36 * (k + n) ≤ length text → ((i : ℕ) → i < n → kind_of (line_at text (k + i)) ≡ Some kind) → 3 * n ≤ places → Whole test (take (36 * n) (drop (36 * k) text)) places
+section_whole test kind text k n places fit h each room =
     let long : length (take (36 * n) (drop (36 * k) text)) ≡ 36 * n = length-take-le (36 * n) (drop (36 * k) text) (omega (arith, length-drop (36 * k) text)) in
     record {
       whole = omega (arith, long);
       each = λ i below.
-          let line = good_line (line_at text (k + i)) kind (each i (omega (arith, long))) good in
+          let line = good_line (line_at text (k + i)) kind (each i (omega (arith, long))) in
           rw (section_line text k n i (omega (arith, long)) h) (line.0, fit (line_at text (k + i)) line.1);
       room = omega (arith, long);
     }
@@ -87,7 +84,11 @@ listed_length (Err refusal) text bytes e = refl
 front_found : {A : Type 0} (front old new : List A) (n : ℕ) → length front ≡ n → n ≤ length old → new ≡ over front old → (n ≤ length new) × (take n new ≡ front)
 front_found front old new n e h f = rw f (omega (arith, length_over front old (omega (arith, e))), take_over front old n e)
 
-module _ (text : List ℕ) (counts : Counts) (good : judged text ≡ Good counts) where
+-- the front of a list is as long as it says
+pub front_long : {A : Type 0} (n : ℕ) (l : List A) → n ≤ length l → n ≡ length (take n l)
+front_long n l h = sym (length-take-le n l h)
+
+module _ (text : List ℕ) (counts : Counts) (good : judged text ≡ Ok counts) where
   -- what the text has
   pub has : Accepted text counts
   unfolding judged
@@ -96,6 +97,10 @@ module _ (text : List ℕ) (counts : Counts) (good : judged text ≡ Good counts
   long : length text ≡ 36 * (counts.vertices + counts.triangles + counts.points)
   unfolding lines_in
   long = has.long
+
+  -- its length, and how few lines there are of each kind
+  pub sizes : (length text ≡ 36 * (counts.vertices + counts.triangles + counts.points)) × (counts.vertices ≤ 512) × (counts.triangles ≤ 512) × (counts.points ≤ 512)
+  sizes = (long, has.limits.vertices, has.limits.triangles, has.limits.points)
 
   -- the bytes of the triangles and of the points
   triangle_bytes : 36 * (counts.vertices + counts.triangles) - 36 * counts.vertices ≡ 36 * counts.triangles
@@ -106,19 +111,19 @@ module _ (text : List ℕ) (counts : Counts) (good : judged text ≡ Good counts
 
   -- the sections are whole
   pub vertices_whole : (places : ℕ) → 1536 ≤ places → Whole is_count (take (36 * counts.vertices) text) places
-  unfolding is_good numbers_fit
+  unfolding numbers_fit is_of
   vertices_whole places h =
-      section_whole is_count Kinds.Vertex text 0 counts.vertices places refl (λ line e. e) (omega (arith, long)) (λ i below. rw (zero-add i) (has.each_vertex i below)) (omega (arith, has.limits.vertices))
+      section_whole is_count Kinds.Vertex text 0 counts.vertices places (λ line e. e) (omega (arith, long)) (λ i below. rw (zero-add i) (has.each_vertex i below)) (omega (arith, has.limits.vertices))
 
   pub triangles_whole : (places : ℕ) → 1536 ≤ places → Whole is_corner (take (36 * (counts.vertices + counts.triangles) - 36 * counts.vertices) (drop (36 * counts.vertices) text)) places
-  unfolding is_good numbers_fit
+  unfolding numbers_fit is_of
   triangles_whole places h =
-      rw triangle_bytes (section_whole is_corner Kinds.Triangle text counts.vertices counts.triangles places refl (λ line e. e) (omega (arith, long)) has.each_triangle (omega (arith, has.limits.triangles)))
+      rw triangle_bytes (section_whole is_corner Kinds.Triangle text counts.vertices counts.triangles places (λ line e. e) (omega (arith, long)) has.each_triangle (omega (arith, has.limits.triangles)))
 
   pub points_whole : (places : ℕ) → 1536 ≤ places → Whole is_count (take (length text - 36 * (counts.vertices + counts.triangles)) (drop (36 * (counts.vertices + counts.triangles)) text)) places
-  unfolding is_good numbers_fit
+  unfolding numbers_fit is_of
   points_whole places h =
-      rw point_bytes (section_whole is_count Kinds.Point text (counts.vertices + counts.triangles) counts.points places refl (λ line e. e) (omega (arith, long)) has.each_point (omega (arith, has.limits.points)))
+      rw point_bytes (section_whole is_count Kinds.Point text (counts.vertices + counts.triangles) counts.points places (λ line e. e) (omega (arith, long)) has.each_point (omega (arith, has.limits.points)))
 
   -- the points are all lines behind the triangles
   point_lines : lines (take (length text - 36 * (counts.vertices + counts.triangles)) (drop (36 * (counts.vertices + counts.triangles)) text)) ≡ drop (counts.vertices + counts.triangles) (lines text)
@@ -189,7 +194,7 @@ module _ (text : List ℕ) (counts : Counts) (good : judged text ≡ Good counts
       }
 
   -- the promise of `list_answers` for what the lines say is that of the call
-  pub lists_found : {listing₀ listing₁ : List ℕ} {result : Listed} → ListsAnswers (mesh_of counts (lines text)) (points_of counts (lines text)) counts.points listing₀ result listing₁ → Lists text listing₀ result listing₁
+  pub lists_found : {listing₀ listing₁ : List ℕ} {result : Result ℕ Refusal} → ListsAnswers (mesh_of counts (lines text)) (points_of counts (lines text)) counts.points listing₀ result listing₁ → Lists text listing₀ result listing₁
   unfolding verdict column_verdict column_answer column_listing
   lists_found {listing₀} {listing₁} {result} lists =
       let m = mesh_of counts (lines text) in
@@ -202,18 +207,6 @@ module _ (text : List ℕ) (counts : Counts) (good : judged text ≡ Good counts
       }
 
 -- a bad line
-pub refused_line : (text listing₀ : List ℕ) (line : ℕ) → judged text ≡ BadLine line → Lists text listing₀ (Answers.Refused (Refusals.Line line)) listing₀
+pub refused_line : (text listing₀ : List ℕ) (line : ℕ) → judged text ≡ Err line → Lists text listing₀ (Err (Refusals.Line line)) listing₀
 unfolding verdict column_verdict column_answer column_listing listed written
 refused_line text listing₀ line e = record { answer = rw e; listing = rw e (sym (over_nothing listing₀)) }
-
--- ---- what an answer says of the verdict
-
-pub listed_refused : (v : Verdict) (bytes : ℕ) (refusal : Refusal) → listed v bytes ≡ Answers.Refused refusal → v ≡ Err refusal
-unfolding listed
-listed_refused Passed bytes refusal e = cc
-listed_refused (Err other) bytes refusal e = cc
-
-pub listed_bytes : (v : Verdict) (bytes n : ℕ) → listed v bytes ≡ Answers.Bytes n → (v ≡ Passed) × (n ≡ bytes)
-unfolding listed
-listed_bytes Passed bytes n e = (refl, cc)
-listed_bytes (Err other) bytes n e = (cc, cc)

@@ -1,20 +1,17 @@
 -- The column call (document 01, Column text): what the lines of a text become, its questions in their order, and its listing. Definitions only.
-use Rattle.std.specs.Prelude.{ℕ, ◌+◌, ◌≡◌, List, [], leb, Float, length, take, drop}
-use Rattle.std.specs.Prelude.{Ok, Err}
+use Rattle.std.specs.Prelude.{ℕ, ◌+◌, ◌≡◌, Result, Ok, Err, List, [], leb, Float, length, take, drop}
+use Rattle.std.specs.Result.{Ok, Err}
 use Rattle.lent.specs.Over.{over}
+use Rattle.refusal.specs.declared.Refusal.{Refusal}
 use Rattle.refusal.specs.declared.Refusal.TheVariants as Refusals
-use Rattle.refusal.specs.Verdicts.{Passed, Verdict, ask, then, written}
+use Rattle.refusal.specs.Verdicts.{Verdict, ask, then, answered, written}
 use Rattle.text.specs.declared.Counts.{Counts}
-use Rattle.text.specs.declared.Judged.{Judged}
-use Rattle.text.specs.declared.Judged.TheVariants.{BadLine, Good}
 use Rattle.text.specs.Lines.{none, lines, judge}
 use Rattle.numbers.specs.Numbers.{float_of, corner_of, numbers_of, ends_from}
 use Rattle.listing.specs.Listing.{listing_text, listing_length}
 use Rattle.mesh.specs.Mesh.{Mesh, mesh}
 use Rattle.mesh_questions.specs.Questions.{ask_mesh}
 use Rattle.polyhedron.specs.Lists.{answers_to}
-use Rattle.column.specs.declared.Listed.{Listed}
-use Rattle.column.specs.declared.Listed.TheVariants as Answers
 
 -- ---- what the lines become
 
@@ -34,17 +31,17 @@ unfoldable pub ask_column : Mesh → ℕ → ℕ → Verdict
 ask_column m points room = then (ask_mesh m.coords m.corners m.ends) (ask (leb (listing_length points) room) Refusals.Room)
 
 -- 12 first, then these
-unfoldable pub column_verdict : Judged → List (List ℕ) → ℕ → Verdict
-column_verdict (BadLine line) l room = Err (Refusals.Line line)
-column_verdict (Good counts) l room = ask_column (mesh_of counts l) counts.points room
+unfoldable pub column_verdict : Result Counts ℕ → List (List ℕ) → ℕ → Verdict
+column_verdict (Err line) l room = Err (Refusals.Line line)
+column_verdict (Ok counts) l room = ask_column (mesh_of counts l) counts.points room
 
 -- the listing of the plain scan's answers
-unfoldable pub column_listing : Judged → List (List ℕ) → List ℕ
-column_listing (BadLine line) l = []
-column_listing (Good counts) l = listing_text (answers_to (mesh_of counts l) (points_of counts l))
+unfoldable pub column_listing : Result Counts ℕ → List (List ℕ) → List ℕ
+column_listing (Err line) l = []
+column_listing (Ok counts) l = listing_text (answers_to (mesh_of counts l) (points_of counts l))
 
 -- the lines of a text judged, counted from 1
-unfoldable pub judged : List ℕ → Judged
+unfoldable pub judged : List ℕ → Result Counts ℕ
 judged text = judge 1 none (lines text)
 
 -- the verdict on a text and a buffer of so many bytes
@@ -55,12 +52,7 @@ verdict text room = column_verdict (judged text) (lines text) room
 unfoldable pub column_answer : List ℕ → ℕ → List ℕ
 column_answer text room = written (verdict text room) (column_listing (judged text) (lines text))
 
--- what it answers: the refusal, or how many bytes it wrote
-unfoldable pub listed : Verdict → ℕ → Listed
-listed Passed bytes = Answers.Bytes bytes
-listed (Err refusal) bytes = Answers.Refused refusal
-
 -- what `point_list` promises: the number of bytes or the refusal, and of the buffer, lent as ₀ and left as ₁, the listing in front and the rest as it was
-pub record Lists (text listing₀ : List ℕ) (result : Listed) (listing₁ : List ℕ) : Type 0 where
-  pub answer : result ≡ listed (verdict text (length listing₀)) (length (column_answer text (length listing₀)))
+pub record Lists (text listing₀ : List ℕ) (result : Result ℕ Refusal) (listing₁ : List ℕ) : Type 0 where
+  pub answer : result ≡ answered (verdict text (length listing₀)) (length (column_answer text (length listing₀)))
   pub listing : listing₁ ≡ over (column_answer text (length listing₀)) listing₀

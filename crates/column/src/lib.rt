@@ -1,23 +1,15 @@
 // The column call: column text to a listing of answers (document 01, Column text). The definitions are in specs/.
 #![tactic(auto)]
 
-ghost use Rattle.std.specs.Prelude.{◌≡◌, length};
+ghost use Rattle.std.specs.Prelude.{◌≡◌, Ok, length};
 ghost use Rattle.mesh.specs.Mesh as Mesh;
-ghost use Rattle.text.specs.declared.Judged.TheVariants as Judgements;
 ghost use Rattle.answers.specs.Answers.{Few};
 ghost use Rattle.column.specs.Column as Column;
 ghost use Rattle.column.specs.Sections as Sections;
 
 use mesh_questions::Asked;
 use refusal::Refusal;
-use text::{Counts, Judged};
-
-// How many bytes of a listing were written, or why none were.
-#[derive(Clone, Copy)]
-pub enum Listed {
-    Refused(Refusal),
-    Bytes(usize),
-}
+use text::Counts;
 
 // Questions 1 to 5 of the mesh and 6 for the listing's room, and then the listing of the points' answers.
 fn list_answers(
@@ -27,24 +19,25 @@ fn list_answers(
     points: &[f64],
     answers: &mut [u8],
     listing: &mut [u8],
-) -> Listed
+) -> Result<usize, Refusal>
     requires { Few (Mesh.mesh coords.now corners.now ends.now) points.now (length answers.old) }
     ensures { Sections.ListsAnswers (Mesh.mesh coords.now corners.now ends.now) points.now (length answers.old) listing.old result listing.new }
 {
     let asked = mesh_questions::ask_mesh(coords, corners, ends);
     if let Asked::Refused(refusal) = asked {
-        return Listed::Refused(refusal);
+        return Err(refusal);
     }
     let bytes = 10 + 10 * answers.len();
     if listing.len() < bytes {
-        return Listed::Refused(Refusal::Room);
+        return Err(Refusal::Room);
     }
     answers::answer_points(coords, corners, ends, points, answers);
     listing::write_listing(answers, listing);
-    Listed::Bytes(bytes)
+    Ok(bytes)
 }
 
 // The listing of a text whose lines are all good, so many of each kind. What they say is written into the lent lists.
+#[tactic(auto, using(crate::specs::CallLaws::sizes, crate::specs::CallLaws::front_long))]
 fn list_into(
     text: &[u8],
     counts: Counts,
@@ -54,17 +47,17 @@ fn list_into(
     points: &mut [f64],
     answers: &mut [u8],
     listing: &mut [u8],
-) -> Listed
-    requires { (Column.judged text.now ≡ Judgements.Good counts) × Sections.Places (length coords.old) (length corners.old) (length ends.old) (length points.old) (length answers.old) }
+) -> Result<usize, Refusal>
+    requires { (Column.judged text.now ≡ Ok counts) × Sections.Places (length coords.old) (length corners.old) (length ends.old) (length points.old) (length answers.old) }
     ensures { Column.Lists text.now listing.old result listing.new }
 {
     let v = counts.vertices;
     let t = counts.triangles;
     let p = counts.points;
-    numbers::fill_points(&text[..36 * v], coords);
-    numbers::fill_corners(&text[36 * v..36 * (v + t)], corners);
+    numbers::fill(&text[..36 * v], coords);
+    numbers::fill(&text[36 * v..36 * (v + t)], corners);
     numbers::fill_ends(t, ends);
-    numbers::fill_points(&text[36 * (v + t)..], points);
+    numbers::fill(&text[36 * (v + t)..], points);
     list_answers(
         &coords[..3 * v],
         &corners[..3 * t],
@@ -76,8 +69,8 @@ fn list_into(
 }
 
 // The same with lists of its own, long enough for any text that is accepted.
-fn list_good(text: &[u8], counts: Counts, listing: &mut [u8]) -> Listed
-    requires { Column.judged text.now ≡ Judgements.Good counts }
+fn list_good(text: &[u8], counts: Counts, listing: &mut [u8]) -> Result<usize, Refusal>
+    requires { Column.judged text.now ≡ Ok counts }
     ensures { Column.Lists text.now listing.old result listing.new }
 {
     let mut coords = [0.0; 1536];
@@ -98,13 +91,13 @@ fn list_good(text: &[u8], counts: Counts, listing: &mut [u8]) -> Listed
 }
 
 // Column text in, a listing out: 12 first, then 1 to 5 of the mesh, 6 for the listing's room, and then for each point
-// the answer 0 outside, 1 inside or 2 undecided.
-pub fn point_list(text: &[u8], listing: &mut [u8]) -> Listed
+// the answer 0 outside, 1 inside or 2 undecided. How many bytes of it were written, or why none were.
+#[tactic(auto, unfolding(crate::specs::Column::judged))]
+pub fn point_list(text: &[u8], listing: &mut [u8]) -> Result<usize, Refusal>
     ensures { Column.Lists text.now listing.old result listing.new }
 {
-    let judged = text::judge_text(text, 1);
-    match judged {
-        Judged::BadLine(line) => Listed::Refused(Refusal::Line(line)),
-        Judged::Good(counts) => list_good(text, counts, listing),
+    match text::judge_text(text, 1) {
+        Ok(counts) => list_good(text, counts, listing),
+        Err(line) => Err(Refusal::Line(line)),
     }
 }
