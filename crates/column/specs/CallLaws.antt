@@ -85,8 +85,7 @@ front_found : {A : Type 0} (front old new : List A) (n : ℕ) → length front �
 front_found front old new n e h f = rw f (omega (arith, length_over front old (omega (arith, e))), take_over front old n e)
 
 -- the front of a list is as long as it says
-pub front_long : {A : Type 0} (n : ℕ) (l : List A) → n ≤ length l → n ≡ length (take n l)
-front_long n l h = sym (length-take-le n l h)
+pub ruleset fronts = (length-take-le)
 
 module _ (text : List ℕ) (counts : Counts) (good : judged text ≡ Ok counts) where
   -- what the text has

@@ -37,7 +37,7 @@ fn list_answers(
 }
 
 // The listing of a text whose lines are all good, so many of each kind. What they say is written into the lent lists.
-#[tactic(auto, using(crate::specs::CallLaws::sizes, crate::specs::CallLaws::front_long))]
+#[tactic(auto, using(crate::specs::CallLaws::sizes, crate::specs::CallLaws::fronts))]
 fn list_into(
     text: &[u8],
     counts: Counts,
