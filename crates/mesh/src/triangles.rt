@@ -1,5 +1,6 @@
 // Triangle t of a mesh: the t-th of the fans of its faces. The definitions are in specs/Triangles.antt.
 ghost use Rattle.std.specs.Prelude.{◌≡◌, ◌+◌, ◌-◌, ◌*◌, ◌≤◌, ◌<◌, length, get_or};
+ghost use Rattle.mesh_questions.specs.Accepted.{Fanned};
 ghost use Rattle.mesh.specs.Mesh as Mesh;
 ghost use Rattle.mesh.specs.Triangles as Triangles;
 
@@ -99,24 +100,31 @@ fn fan_triangle(corners: &[u32], first: usize, at: usize) -> Triangle
     }
 }
 
+// Triangle `t` of a mesh whose faces are all wide: at once if all faces have three or four corners, at the first guess if
+// all have the same number, and else by a binary search.
+pub fn triangle(corners: &[u32], ends: &[u32], sides: Sides, t: usize) -> Triangle
+    requires { Fanned corners.now ends.now × (sides ≡ Triangles.sides ends.now) × (t < length corners.now - 2 * length ends.now) }
+    ensures { result ≡ get_or (Triangles.triangles corners.now ends.now) t (Triangles.triangle 0 0 0) }
+{
+    match sides {
+        Sides::Three => fan_triangle(corners, 3 * t, 3 * t),
+        Sides::Four => {
+            let f = t / 2;
+            fan_triangle(corners, 4 * f, t + 2 * f)
+        }
+        Sides::Mixed => {
+            let f = face_of(ends, corners.len() - 2 * ends.len(), t);
+            fan_triangle(corners, start_of(ends, f), t + 2 * f)
+        }
+    }
+}
+
 impl<'a> AcceptedMesh<'a> {
-    // Triangle `t`: at once if all faces have three or four corners, at the first guess if all have the same number, and
-    // else by a binary search.
+    // Triangle `t`.
     pub fn triangle(&self, t: usize) -> Triangle
         requires { t < length self.now.corners - 2 * length self.now.ends }
         ensures { result ≡ Mesh.triangle_at self.now t }
     {
-        let corners = self.corners;
-        match self.sides {
-            Sides::Three => fan_triangle(corners, 3 * t, 3 * t),
-            Sides::Four => {
-                let f = t / 2;
-                fan_triangle(corners, 4 * f, t + 2 * f)
-            }
-            Sides::Mixed => {
-                let f = face_of(self.ends, corners.len() - 2 * self.ends.len(), t);
-                fan_triangle(corners, start_of(self.ends, f), t + 2 * f)
-            }
-        }
+        triangle(self.corners, self.ends, self.sides, t)
     }
 }

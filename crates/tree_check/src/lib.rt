@@ -144,7 +144,7 @@ pub fn ask_room<'a>(mesh: &Mesh<'a>, work: usize) -> Result<AcceptedMesh<'a>, Re
 }
 
 // Question 7, of a mesh that passes 1 to 6. The work places that it needs hold 0 then.
-fn ask_tree(mesh: &AcceptedMesh, tree: &Tree, work: &mut [u64]) -> Result<(), Refusal>
+pub fn ask_tree(mesh: &AcceptedMesh, tree: &Tree, work: &mut [u64]) -> Result<(), Refusal>
     requires { length mesh.now.corners ≤ length work.old }
     ensures { Check.AsksTree mesh.now tree.now work.old result work.new }
 {
