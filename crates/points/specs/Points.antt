@@ -1,26 +1,18 @@
--- What is prepared once for a list of points, and what the answer to a point takes for granted. Definitions only.
-use Rattle.std.specs.Prelude.{ℕ, ◌≡◌, Bool, true, List, map, Float}
-use Rattle.math.specs.declared.Vec3.{Vec3}
-use Rattle.math.specs.Vectors.{is_finite}
-use Rattle.mesh_questions.specs.Accepted.{Accepted}
+-- What is prepared once for a list of points. Definitions only.
+use Rattle.std.specs.Prelude.{◌≡◌, Bool, List, map}
 use Rattle.mesh_questions.specs.Faces.{faces}
-use Rattle.mesh.specs.Triangles as Triangles
+use Rattle.mesh.specs.declared.boxes.Bounds.{Bounds}
 use Rattle.mesh.specs.Boxes.{prepare}
-use Rattle.mesh.specs.Mesh.{Mesh}
-use Rattle.tree.specs.Tree.{Tree}
-use Rattle.tree.specs.TreeRules.{TreeRules}
+use Rattle.tree.specs.TreeRules.{AcceptedTree}
 use Rattle.edges.specs.Edges.{closed}
-use Rattle.scan.specs.Scan.{inverse, directions}
-use Rattle.ray_walk.specs.Planes.{near_places}
-use Rattle.points.specs.declared.Prepared.{Prepared}
+use Rattle.scan.specs.Scan.{directions}
+use Rattle.walks.specs.Walks.{Ready}
+use Rattle.ray_walk.specs.declared.Heading.{Heading}
+use Rattle.ray_walk.specs.Casts.{heading}
 
--- what is worked out once for a list of points, of a mesh that is closed or not
-unfoldable pub prepared : List Float → List ℕ → Bool → Prepared
-prepared coords ends closed = record { sides = Triangles.sides ends; bounds = prepare coords; closed = closed; inverses = map inverse directions; near = map near_places (map inverse directions) }
-
--- what `point_answer` takes for granted: an accepted mesh, a tree that keeps the rules, what is prepared of the mesh, and a finite point
-pub record Asked (m : Mesh) (t : Tree) (given : Prepared) (p : Vec3) : Type 0 where
-  pub accepted : Accepted m.coords m.corners m.ends
-  pub rules : TreeRules m t
-  pub prepared : given ≡ prepared m.coords m.ends (closed (faces m.corners m.ends))
-  pub finite : is_finite p ≡ true
+-- what is worked out of an accepted tree is right: the bounds of its mesh, whether that is closed, and the headings of the three directions
+pub record Right (t : AcceptedTree) (given : Bounds) (said : Bool) (rows : List Heading) : Type 0 where
+  pub ready : Ready t.mesh t.tree
+  pub bounds : given ≡ prepare t.mesh.coords
+  pub closed : said ≡ closed (faces t.mesh.corners t.mesh.ends)
+  pub headings : rows ≡ map heading directions

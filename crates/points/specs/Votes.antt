@@ -14,37 +14,23 @@ use Rattle.math.specs.Vectors as Vectors
 use Rattle.math.specs.Vectors.{vec}
 use Rattle.geom.specs.Tolerance.{rel_tol, least_magnitude, tol_of}
 use Rattle.mesh.specs.Mesh.{Mesh}
-use Rattle.mesh_questions.specs.Faces.{faces}
 use Rattle.mesh.specs.Boxes.{surface_eps, prepare}
-use Rattle.tree.specs.Tree.{Tree}
-use Rattle.edges.specs.Edges.{closed}
 use Rattle.rays.specs.BoxLaws.{finite_non_zero}
 use Rattle.scan.specs.declared.votes.Parity.TheVariants.{Odd, Even}
 use Rattle.scan.specs.declared.votes.Votes.{Votes}
 use Rattle.scan.specs.Scan.{Vote, inverse, directions, counted, ended, votes_from}
-use Rattle.points.specs.declared.Prepared.{Prepared}
-use Rattle.ray_walk.specs.Planes.{near_places}
-use Rattle.walks.specs.Walks.{Ready}
-use Rattle.ray_walk.specs.Casts.{direction}
-use Rattle.points.specs.Points.{prepared, Asked}
+use Rattle.ray_walk.specs.declared.Heading.{Heading}
+use Rattle.ray_walk.specs.Casts.{direction, heading}
 
 -- ---- the directions
 
--- one over direction k
-pub inverse_at : (k : ℕ) → k < 3 → get_or (map inverse directions) k (vec nan nan nan) ≡ inverse (direction k)
+-- the heading of direction k
+pub heading_at : (k : ℕ) (d : Heading) → k < 3 → get_or (map heading directions) k d ≡ heading (direction k)
 unfolding direction directions
-inverse_at zero h = refl
-inverse_at (suc zero) h = refl
-inverse_at (suc (suc zero)) h = refl
-inverse_at (suc (suc (suc k))) h = absurd (omega arith)
-
--- and the places of the nearer planes
-pub near_at : (k : ℕ) → k < 3 → get_or (map near_places (map inverse directions)) k (record { x = 0; y = 0; z = 0 }) ≡ near_places (inverse (direction k))
-unfolding direction directions
-near_at zero h = refl
-near_at (suc zero) h = refl
-near_at (suc (suc zero)) h = refl
-near_at (suc (suc (suc k))) h = absurd (omega arith)
+heading_at zero d h = refl
+heading_at (suc zero) d h = refl
+heading_at (suc (suc zero)) d h = refl
+heading_at (suc (suc (suc k))) d h = absurd (omega arith)
 
 -- it is finite and not zero
 pub inverse_factors : (k : ℕ) → k < 3 → finite_non_zero (inverse (direction k)) ≡ true
@@ -71,21 +57,7 @@ counted_sum v None = omega arith
 counted_sum v (Some Odd) = omega arith
 counted_sum v (Some Even) = omega arith
 
--- ---- what is prepared
-
--- the mesh and the tree are ready for the walks
-pub asked_ready : {m : Mesh} {t : Tree} {given : Prepared} {p : Vec3} → Asked m t given p → Ready m given.sides t
-unfolding prepared
-asked_ready a = record { accepted = a.accepted; sides = ap (λ (given : Prepared). given.sides) a.prepared; rules = a.rules }
-
--- the bounds, and whether the mesh is closed
-pub asked_bounds : {m : Mesh} {t : Tree} {given : Prepared} {p : Vec3} → Asked m t given p → given.bounds ≡ prepare m.coords
-unfolding prepared
-asked_bounds a = ap (λ (given : Prepared). given.bounds) a.prepared
-
-pub asked_closed : {m : Mesh} {t : Tree} {given : Prepared} {p : Vec3} → Asked m t given p → given.closed ≡ closed (faces m.corners m.ends)
-unfolding prepared
-asked_closed a = ap (λ (given : Prepared). given.closed) a.prepared
+-- ---- the tolerance
 
 -- the least magnitude is at most what a tolerance is taken of
 least_below : (m : Float) → T (le least_magnitude (Rules.max m least_magnitude))
@@ -103,6 +75,6 @@ tol_of_positive m =
     (is_true _ (le_trans Arithmetic.zero (least_magnitude ⊗ rel_tol) (largest ⊗ rel_tol) least (mul_mono_pos binary64 least_magnitude largest rel_tol (unfold of_bits in tt) (unfold lt of_bits in tt) (least_below m))))
 
 -- so is that of the surface test
-pub asked_positive : {m : Mesh} {t : Tree} {given : Prepared} {p : Vec3} → Asked m t given p → le Arithmetic.zero given.bounds.eps ≡ true
+pub eps_positive : (m : Mesh) → le Arithmetic.zero (prepare m.coords).eps ≡ true
 unfolding prepare surface_eps
-asked_positive a = rw (asked_bounds a) (tol_of_positive _)
+eps_positive m = tol_of_positive _

@@ -1,114 +1,103 @@
-// The answer to one point over a lent tree. The definition is the plain scan's, `plain_scan` in crate scan: the tree does
-// not show in it.
+// The answer to one point over an accepted tree. The definition is the plain scan's, `plain_scan` in crate scan: the tree
+// does not show in it.
 #![tactic(auto)]
 
-ghost use Rattle.std.specs.Prelude.{◌≡◌};
-ghost use Rattle.mesh.specs.Mesh as Mesh;
-ghost use Rattle.tree.specs.Tree as Tree;
+ghost use Rattle.std.specs.Prelude.{◌≡◌, ◌≤◌, true, length};
+ghost use Rattle.keys.specs.Sorting.{sorted};
+ghost use Rattle.lent.specs.Over.{over};
+ghost use Rattle.math.specs.Vectors.{is_finite};
+ghost use Rattle.mesh_questions.specs.Faces.{faces};
+ghost use Rattle.edges.specs.Edges.{edge_keys};
+ghost use Rattle.scan.specs.Answers as Answers;
 ghost use Rattle.scan.specs.Scan as Scan;
-ghost use Rattle.points.specs.Points as Points;
 
 use math::Vec3;
 use mesh::boxes::Bounds;
-use ray_walk::{Near, Ray, direction, inverses, near_planes, ray_walk};
-use scan::votes::Votes;
-use surface_walk::surface_walk;
+use ray_walk::{Heading, Ray, headings, ray_walk};
+use scan::votes::{Answer, Votes};
+use std::marker::Model;
+use surface_walk::{Touch, surface_walk};
+use tree::AcceptedTree;
 
-// What is worked out once for a list of points, of the mesh and of the three directions.
-#[derive(Clone, Copy)]
-pub struct Prepared {
-    // How triangles are found: `mesh::triangles::sides`.
-    pub sides: usize,
+// An accepted tree, and what is worked out once for a list of points. To a caller it is the mesh.
+#[derive(Drop)]
+pub struct Prepared<'t, 'a> {
+    tree: &'t AcceptedTree<'a>,
     // The grown box and the tolerance of the surface test.
-    pub bounds: Bounds,
-    pub closed: bool,
-    // One over each direction.
-    pub inverses: [Vec3; 3],
-    // For each direction the places of the nearer planes of a node.
-    pub near: [Near; 3],
+    bounds: Bounds,
+    closed: bool,
+    headings: [Heading; 3],
 }
 
-// The votes on a point.
-fn votes(
-    coords: &[f64],
-    corners: &[u32],
-    ends: &[u32],
-    boxes: &[f64],
-    nodes: &[u32],
-    items: &[u32],
-    prepared: Prepared,
-    p: Vec3,
-) -> Votes
-    requires { Points.Asked (Mesh.mesh coords.now corners.now ends.now) (Tree.tree boxes.now nodes.now items.now) prepared p }
-    ensures { result ≡ Scan.votes (Mesh.mesh coords.now corners.now ends.now) p }
-{
-    let mut votes = Votes { odd: 0, even: 0 };
-    let mut k = 0;
-    while k < 3 {
-        if votes.ended() {
-            return votes;
+impl<'t, 'a> Model for Prepared<'t, 'a> {
+    ghost use Rattle.mesh.specs.Mesh.{Mesh};
+    ghost use Rattle.points.specs.Points.{Right};
+
+    ghost Value = { Mesh };
+
+    ghost view = { λ a. a.tree.now.mesh };
+
+    ghost invariant = { λ a. Right a.tree.now a.bounds a.closed a.headings };
+}
+
+impl<'t, 'a> Prepared<'t, 'a> {
+    // What is worked out of a tree. The edges of its mesh are sorted in the work places.
+    pub fn new(tree: &'t AcceptedTree<'a>, work: &mut [u64]) -> Self
+        requires { length tree.now.mesh.corners ≤ length work.old }
+        ensures mesh { result ≡ tree.now.mesh }
+        ensures work { work.new ≡ over (sorted (edge_keys (faces tree.now.mesh.corners tree.now.mesh.ends))) work.old }
+    {
+        let mesh = &tree.mesh;
+        let closed = edges::keys_closed(mesh.corners, mesh.ends, work);
+        Prepared {
+            tree,
+            bounds: mesh::boxes::prepare(mesh.coords),
+            closed,
+            headings: headings(),
         }
-        let ray = Ray {
-            origin: p,
-            direction: direction(k),
-            inverse: prepared.inverses[k],
-            near: prepared.near[k],
+    }
+
+    // The votes on a point.
+    fn votes(&self, p: Vec3) -> Votes
+        requires { is_finite p ≡ true }
+        ensures { result ≡ Scan.votes self.now p }
+    {
+        let tree = self.tree;
+        let mut votes = Votes { odd: 0, even: 0 };
+        for heading in &self.headings {
+            if votes.ended() {
+                return votes;
+            }
+            let ray = Ray {
+                origin: p,
+                direction: heading.direction,
+                inverse: heading.inverse,
+                near: heading.near,
+            };
+            votes = votes.counted(ray_walk(tree, &ray));
+        }
+        votes
+    }
+
+    // The answer to a point.
+    pub fn answer(&self, p: Vec3) -> Answer
+        requires { is_finite p ≡ true }
+        ensures { Answers.byte result ≡ Scan.plain_scan self.now p }
+    {
+        let bounds = self.bounds;
+        if !bounds.grown.contains(p) {
+            return Answer::Outside;
+        }
+        let touch = Touch {
+            point: p,
+            eps: bounds.eps,
         };
-        let vote = ray_walk(
-            coords,
-            corners,
-            ends,
-            prepared.sides,
-            boxes,
-            nodes,
-            items,
-            ray,
-        );
-        votes = votes.counted(vote);
-        k += 1;
-    }
-    votes
-}
-
-// The answer to a point.
-pub fn point_answer(
-    coords: &[f64],
-    corners: &[u32],
-    ends: &[u32],
-    boxes: &[f64],
-    nodes: &[u32],
-    items: &[u32],
-    prepared: Prepared,
-    p: Vec3,
-) -> u8
-    requires { Points.Asked (Mesh.mesh coords.now corners.now ends.now) (Tree.tree boxes.now nodes.now items.now) prepared p }
-    ensures { result ≡ Scan.plain_scan (Mesh.mesh coords.now corners.now ends.now) p }
-{
-    let bounds = prepared.bounds;
-    if !bounds.grown.contains(p) {
-        return 0;
-    }
-    let sides = prepared.sides;
-    if surface_walk(
-        coords, corners, ends, sides, boxes, nodes, items, bounds.eps, p,
-    ) {
-        return 1;
-    }
-    if !prepared.closed {
-        return 0;
-    }
-    votes(coords, corners, ends, boxes, nodes, items, prepared, p).verdict()
-}
-
-// What is prepared of an accepted mesh that is closed or not.
-pub fn prepare(coords: &[f64], ends: &[u32], closed: bool) -> Prepared
-    ensures { result ≡ Points.prepared coords.now ends.now closed }
-{
-    Prepared {
-        sides: mesh::triangles::sides(ends),
-        bounds: mesh::boxes::prepare(coords),
-        closed: closed,
-        inverses: inverses(),
-        near: near_planes(),
+        if surface_walk(self.tree, touch) {
+            return Answer::Inside;
+        }
+        if !self.closed {
+            return Answer::Outside;
+        }
+        self.votes(p).verdict()
     }
 }

@@ -5,12 +5,17 @@ use Rattle.math.specs.declared.Vec3.{Vec3}
 use Rattle.math.specs.Vectors.{vec, is_finite}
 use Rattle.rays.specs.BoxLaws.{finite_non_zero}
 use Rattle.scan.specs.Scan.{inverse, directions}
+use Rattle.ray_walk.specs.declared.Heading.{Heading}
 use Rattle.ray_walk.specs.declared.Near.{Near}
 use Rattle.ray_walk.specs.Planes.{near_places}
 
 -- direction k
 unfoldable pub direction : ℕ → Vec3
 direction k = get_or directions k (vec nan nan nan)
+
+-- a direction with what is worked out of it
+unfoldable pub heading : Vec3 → Heading
+heading d = record { direction = d; inverse = inverse d; near = near_places (inverse d) }
 
 -- a ray: where it begins, and its direction
 pub record Line : Type 0 where

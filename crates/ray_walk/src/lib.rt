@@ -38,6 +38,14 @@ pub struct Near {
     pub z: usize,
 }
 
+// A direction, one over it, axis by axis, and the places of the nearer planes: worked out once for all rays.
+#[derive(Clone, Copy)]
+pub struct Heading {
+    pub direction: Vec3,
+    pub inverse: Vec3,
+    pub near: Near,
+}
+
 // A ray from a finite point: where it begins, its direction, one over that, axis by axis, and the places of the nearer
 // planes. To a caller it is the first two, which say the others.
 #[derive(Drop)]
@@ -75,18 +83,6 @@ fn inverse(d: Vec3) -> Vec3
     Vec3::new(1.0 / d.x, 1.0 / d.y, 1.0 / d.z)
 }
 
-// One over each direction.
-#[tactic(auto, unfolding(crate::specs::Casts::direction, scan::specs::Scan::directions))]
-pub fn inverses() -> [Vec3; 3]
-    ensures { result ≡ map Scan.inverse Scan.directions }
-{
-    [
-        inverse(direction(0)),
-        inverse(direction(1)),
-        inverse(direction(2)),
-    ]
-}
-
 // That place on one axis: of the minimum, unless the ray comes from the other side.
 #[tactic(auto, unfolding(crate::specs::Planes::near_place))]
 fn near_place(inverse: f64, axis: usize) -> usize
@@ -108,16 +104,27 @@ fn near_places(inverse: Vec3) -> Near
     }
 }
 
-// The places for each direction.
-#[tactic(auto, unfolding(crate::specs::Casts::direction, scan::specs::Scan::directions))]
-pub fn near_planes() -> [Near; 3]
-    ensures { result ≡ map Planes.near_places (map Scan.inverse Scan.directions) }
+// Direction `k`, with what is worked out of it.
+#[tactic(auto, unfolding(crate::specs::Casts::heading))]
+fn heading_of(k: usize) -> Heading
+    requires { k < 3 }
+    ensures { result ≡ Casts.heading (Casts.direction k) }
 {
-    [
-        near_places(inverse(direction(0))),
-        near_places(inverse(direction(1))),
-        near_places(inverse(direction(2))),
-    ]
+    let direction = direction(k);
+    let inverse = inverse(direction);
+    Heading {
+        direction,
+        inverse,
+        near: near_places(inverse),
+    }
+}
+
+// Each direction, with what is worked out of it.
+#[tactic(auto, unfolding(crate::specs::Casts::direction, scan::specs::Scan::directions))]
+pub fn headings() -> [Heading; 3]
+    ensures { result ≡ map Casts.heading Scan.directions }
+{
+    [heading_of(0), heading_of(1), heading_of(2)]
 }
 
 // Where the ray meets the plane at place `i`, on one axis.
