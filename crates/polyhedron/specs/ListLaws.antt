@@ -1,11 +1,11 @@
 -- What leads from the steps of `contains_list` to its promise: where a question refuses, and where none does.
 use Rattle.std.specs.Prelude.{ℕ, ◌+◌, ◌*◌, ◌/◌, ◌%◌, ◌≤◌, ◌<◌, ◌≡◌, true, ◌&&◌, List, eqb, leb, Float, length, get_or, take, set, replicate}
 use Rattle.std.proofs.Common.{arith, ap, ◌∙◌, take_all, eqb-true, leb-true}
-use Rattle.std.proofs.Math.Path.{sym}
+use Rattle.std.proofs.Math.Path.{refl, sym}
 use Rattle.std.specs.Float.{nan}
 use Rattle.std.proofs.Math.ListN.{length-replicate, get_or-map}
 use Rattle.std.proofs.lemmas.List.{length-map}
-use Rattle.std.specs.Prelude.{Ok, Err}
+use Rattle.std.specs.Prelude.{Result, Ok, Err}
 use Rattle.keys.specs.Sorting.{sorted}
 use Rattle.lent.specs.Over.{over, over_nothing, over_take, over_over, over_whole, length_over}
 use Rattle.refusal.specs.declared.Refusal.{Refusal}
@@ -16,14 +16,13 @@ use Rattle.math.specs.Vectors.{vec, at, points, is_finite, length_points, get_d_
 use Rattle.mesh_questions.specs.Faces.{faces}
 use Rattle.mesh_questions.specs.Accepted.{Accepted, finite_of}
 use Rattle.mesh.specs.Mesh.{Mesh}
-use Rattle.edges.specs.Edges.{edge_keys, closed}
+use Rattle.edges.specs.Edges.{edge_keys}
 use Rattle.edges.specs.PairLaws.{length_sorted_keys}
 use Rattle.tree.specs.Tree.{Tree}
+use Rattle.tree.specs.TreeRules.{AcceptedTree}
 use Rattle.tree_check.specs.Check as Check
-use Rattle.tree_check.specs.Check.{ask_room, ask_tree, check_answer, room_passed, check_accepts}
+use Rattle.tree_check.specs.Check.{ask_room, ask_tree, check_answer, room_passed}
 use Rattle.scan.specs.Scan.{plain_scan}
-use Rattle.points.specs.declared.Prepared.{Prepared}
-use Rattle.points.specs.Points.{prepared}
 use Rattle.polyhedron.specs.Lists.{list_fits, ask_points, ask_list, list_verdict, answers_to, list_answer, keys_left, list_work, Contains, Answerable}
 
 -- ---- the answers
@@ -72,6 +71,10 @@ list_short list places e =
     let few = both (eqb (length list % 3) 0) (leb (length list / 3) 65536) parts.0 in
     omega (arith, eqb-true (length list % 3) 0 few.0, leb-true (length list / 3) 65536 few.1)
 
+-- a tree accepted is a tree checked
+pub checks_of : {m : Mesh} {t : Tree} {work₀ work₁ : List ℕ} {result : Result AcceptedTree Refusal} → Check.Accepts m t work₀ result work₁ → Check.Checks m t work₀ (check_answer m t (length work₀)) work₁
+checks_of a = record { answer = refl; work = a.work }
+
 module _ {m : Mesh} {t : Tree} {work₀ work₁ : List ℕ} {checked : Verdict} (check : Check.Checks m t work₀ checked work₁) where
   -- a refusal by 1 to 7
   pub refused_tree : (list : List Float) (answers₀ : List ℕ) {refusal : Refusal} → checked ≡ Err refusal → Contains m t list work₀ answers₀ (Err refusal) work₁ answers₀
@@ -111,13 +114,10 @@ module _ {m : Mesh} {t : Tree} {work₀ work₁ : List ℕ} {checked : Verdict} 
 
     module _ (list : List Float) (answers₀ : List ℕ) (asked : ask_list list (length answers₀) ≡ Passed) where
       -- every point can be answered
-      pub answerable : (given : Prepared) → given ≡ prepared m.coords m.ends (closed (faces m.corners m.ends)) → Answerable m t given list (length answers₀)
-      answerable given e =
+      pub answerable : Answerable list (length answers₀)
+      answerable =
           let parts = list_passed list (length answers₀) asked in
-          record {
-            point = λ i h. record { accepted = accepted_list; rules = (check_accepts m t (length work₀) room).0 all; prepared = e; finite = parts.1 i h };
-            enough = parts.0;
-          }
+          record { finite = parts.1; enough = parts.0 }
 
       -- nothing is refused
       pub answered : {work₂ answers₁ : List ℕ} → work₂ ≡ over (sorted (edge_keys (faces m.corners m.ends))) work₁ → answers₁ ≡ answers_to m list → Contains m t list work₀ answers₀ Passed work₂ answers₁

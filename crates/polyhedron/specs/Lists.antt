@@ -1,12 +1,11 @@
 -- Answering a list of points (document 01, 'Answers, and the questions asked first'): questions 1 to 9, the answers, and what is left in the work places.
 -- Definitions only.
-use Rattle.std.specs.Prelude.{ℕ, ◌*◌, ◌/◌, ◌%◌, ◌<◌, ◌≡◌, Bool, ◌&&◌, List, map, eqb, leb, Float, length, replicate}
-use Rattle.std.specs.Prelude.{Ok, Err}
+use Rattle.std.specs.Prelude.{ℕ, ◌*◌, ◌/◌, ◌%◌, ◌<◌, ◌≡◌, Bool, true, ◌&&◌, List, map, eqb, leb, Float, length, replicate, Ok, Err}
 use Rattle.keys.specs.Sorting.{sorted}
 use Rattle.lent.specs.Over.{over}
 use Rattle.refusal.specs.declared.Refusal.TheVariants as Refusals
-use Rattle.refusal.specs.Verdicts.{Passed, Verdict, ask, then, written}
-use Rattle.math.specs.Vectors.{at, points}
+use Rattle.refusal.specs.Verdicts.{Verdict, ask, then, written}
+use Rattle.math.specs.Vectors.{at, points, is_finite}
 use Rattle.mesh_questions.specs.Faces.{faces}
 use Rattle.mesh_questions.specs.Questions.{ask_finite}
 use Rattle.mesh.specs.Mesh.{Mesh}
@@ -14,8 +13,6 @@ use Rattle.edges.specs.Edges.{edge_keys}
 use Rattle.tree.specs.Tree.{Tree}
 use Rattle.tree_check.specs.Check.{ask_room, check_answer}
 use Rattle.scan.specs.Scan.{plain_scan}
-use Rattle.points.specs.declared.Prepared.{Prepared}
-use Rattle.points.specs.Points.{Asked}
 
 -- question 8: is the point list a multiple of 3, of at most 65,536 points, and the answer list a third as long?
 unfoldable pub list_fits : ℕ → ℕ → Bool
@@ -43,7 +40,7 @@ list_answer m t work list places = written (list_verdict m t work list places) (
 
 -- what is left in the needed work places where 1 to 6 refuse nothing: the edge keys, ascending, or 0 for each corner if 7, 8 or 9 refuses
 unfoldable pub keys_left : Mesh → Verdict → List ℕ
-keys_left m Passed = sorted (edge_keys (faces m.corners m.ends))
+keys_left m (Ok passed) = sorted (edge_keys (faces m.corners m.ends))
 keys_left m (Err refusal) = replicate (length m.corners) 0
 
 -- what is written into the work places: nothing if 1 to 6 refuse
@@ -56,7 +53,7 @@ pub record Contains (m : Mesh) (t : Tree) (list : List Float) (work₀ answers�
   pub answers : answers₁ ≡ over (list_answer m t (length work₀) list (length answers₀)) answers₀
   pub work : work₁ ≡ over (list_work m t (length work₀) list (length answers₀)) work₀
 
--- what `answer_points` takes for granted: an accepted mesh, a tree that keeps the rules, what is prepared of the mesh, finite points, and a place for each answer
-pub record Answerable (m : Mesh) (t : Tree) (given : Prepared) (list : List Float) (places : ℕ) : Type 0 where
-  pub point : (i : ℕ) → i < length list / 3 → Asked m t given (at list (3 * i))
+-- what `answer_points` takes for granted: finite points, and a place for each answer
+pub record Answerable (list : List Float) (places : ℕ) : Type 0 where
+  pub finite : (i : ℕ) → i < length list / 3 → is_finite (at list (3 * i)) ≡ true
   pub enough : places ≡ length list / 3
