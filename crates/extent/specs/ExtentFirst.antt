@@ -1,100 +1,109 @@
--- The first zero of sorted items: what one item more changes, and that of two lists together.
-use Rattle.std.specs.Prelude.{ℕ, ◌≤◌, ◌≡◌, ◌⊎◌, false, Float}
+-- The first zero of sorted items: what one item more changes, that of two lists together, and that it is one of the items.
+use Rattle.std.specs.Prelude.{ℕ, ◌≤◌, ◌≡◌, ◌⊎◌, true, false, Float, Option, None, Some, IfSome}
 use native.Mathlib.Omega.{arith}
 use Rattle.std.proofs.Math.Path.{refl}
-use Rattle.std.proofs.Common.{◌∙◌, inl, ⊎_elim, le-leb}
+use Rattle.std.proofs.Common.{sym, ◌∙◌, inl, ⊎_elim, le-leb, leb-true, true≢false}
 use Rattle.std.proofs.Math.Logic.{inr}
 use mathlib.Core.List.{List, [], ◌∷◌, ◌++◌, append-nil}
 use Rattle.std.specs.Float.Ieee.{eq}
 use Rattle.std.proofs.lemmas.Bool.{lt-leb}
 use Rattle.float.specs.Arithmetic.{zero}
 use Rattle.keys.specs.Sorting.{insert_by, sorted_by, sorted, All, AscendingBy, Ascending}
-use Rattle.keys.specs.SortingTheorems.{by_test, le_or_lt, insert_here, insert_past, all_le, all_sorted_by, sorted_ascending}
-use Rattle.extent.specs.declared.Found.{Found}
-use Rattle.extent.specs.Extent.{no_zero, first_zero, earlier}
+use Rattle.keys.specs.SortingTheorems.{by_test, le_or_lt, insert_here, insert_past, all_le, sorted_ascending}
+use Rattle.extent.specs.Extent.{first_zero, in_time, earlier}
 
 -- ---- one item more
 
--- a number that is at most all items is at most the first with a zero
-first_after : (e : ℕ → Float) (t : ℕ) (l : List ℕ) → t ≤ 0xFFFF_FFFF → All (λ s. t ≤ s) l → t ≤ (first_zero e l).item
-unfolding first_zero no_zero All
-first_after e t [] h a = h
-first_after e t (s ∷ rest) h a = by_test (eq (e s) zero) (λ z. rw z a.0) (λ z. rw z (first_after e t rest h a.1))
+-- a number that is at most all items does not come later than the first with a zero
+first_after : (e : ℕ → Float) (t : ℕ) (l : List ℕ) → All (λ s. t ≤ s) l → in_time (first_zero e l) t ≡ true
+unfolding first_zero All
+first_after e t [] a = refl
+first_after e t (s ∷ rest) a = by_test (eq (e s) zero) (λ z. rw z (le-leb t s a.0)) (λ z. rw z (first_after e t rest a.1))
 
 -- an item put into an ascending list
-first_insert : (e : ℕ → Float) (t : ℕ) (l : List ℕ) → t ≤ 0xFFFF_FFFF → Ascending l → first_zero e (insert_by (λ x. x) t l) ≡ earlier (first_zero e l) t (e t)
-unfolding first_zero no_zero earlier All AscendingBy insert_by
-first_insert e t [] h a = by_test (eq (e t) zero) (λ z. rw (z, le-leb t 0xFFFF_FFFF h)) (λ z. rw z)
-first_insert e t (s ∷ rest) h a =
-    let more = first_insert e t rest h a.1 in
+first_insert : (e : ℕ → Float) (t : ℕ) (l : List ℕ) → Ascending l → first_zero e (insert_by (λ x. x) t l) ≡ earlier (first_zero e l) t (e t)
+unfolding first_zero earlier All AscendingBy insert_by
+first_insert e t [] a = by_test (eq (e t) zero) (λ z. rw z) (λ z. rw z)
+first_insert e t (s ∷ rest) a =
+    let more = first_insert e t rest a.1 in
     ⊎_elim
-    (λ k. rw (insert_here (λ x. x) t s rest k) (by_test (eq (e t) zero) (λ z. rw (z, le-leb t (first_zero e (s ∷ rest)).item (late k))) (λ z. rw z)))
+    (λ k. rw (insert_here (λ x. x) t s rest k) (by_test (eq (e t) zero) (λ z. rw (z, late k)) (λ z. rw z)))
     (λ k. rw (insert_past (λ x. x) t s rest k) (by_test (eq (e s) zero) (λ y. rw y (by_test (eq (e t) zero) (λ z. rw (z, lt-leb t s k)) (λ z. rw z))) (λ y. rw y more)))
     (le_or_lt t s)
   where
-    late : t ≤ s → t ≤ (first_zero e (s ∷ rest)).item
-    late k = first_after e t (s ∷ rest) h (k, all_le (λ x. x) t s rest k a.0)
+    late : t ≤ s → in_time (first_zero e (s ∷ rest)) t ≡ true
+    late k = first_after e t (s ∷ rest) (k, all_le (λ x. x) t s rest k a.0)
 
 -- ---- two lists
 
--- z is the one of x and y whose item is the lower
-abbrev First : Found → Found → Found → Type 0
-First x y z = ((z ≡ x) × (x.item ≤ y.item)) ⊎ ((z ≡ y) × (y.item ≤ x.item))
+-- x does not come later than y
+abbrev NoLater : Option ℕ → Option ℕ → Type 0
+NoLater x y = (s : ℕ) → in_time x s ≡ true → in_time y s ≡ true
+
+-- z is the one of x and y that comes first
+abbrev First : Option ℕ → Option ℕ → Option ℕ → Type 0
+First x y z = ((z ≡ x) × NoLater x y) ⊎ ((z ≡ y) × NoLater y x)
+
+-- an item that is in time, and one before it
+in_time_before : (x : Option ℕ) (t : ℕ) → in_time x t ≡ true → NoLater (Some t) x
+in_time_before None t h s k = refl
+in_time_before (Some u) t h s k = le-leb s u (omega (arith, leb-true t u h, leb-true s t k))
+
+-- an item that comes later, and one in time
+late_after : (y : Option ℕ) (t : ℕ) → in_time y t ≡ false → NoLater y (Some t)
+late_after None t h s k = absurd (true≢false h)
+late_after (Some u) t h s k = ⊎_elim (λ less. absurd (true≢false (sym (le-leb t u less) ∙ h))) (λ less. le-leb s t (omega (arith, leb-true s u k))) (le_or_lt t u)
 
 -- one item more, beside x
-earlier_first : (x y z : Found) (t : ℕ) (v : Float) → First x y z → First (earlier x t v) y (earlier z t v)
+earlier_first : (x y z : Option ℕ) (t : ℕ) (v : Float) → First x y z → First (earlier x t v) y (earlier z t v)
 unfolding earlier
 earlier_first x y z t v h =
     by_test (eq v zero)
     (λ some. rw some
     (⊎_elim
-    (λ w. inl (rw w.0, ⊎_elim (λ k. rw (le-leb t x.item k) (omega (arith, w.1))) (λ k. rw (lt-leb t x.item k) w.1) (le_or_lt t x.item)))
-    (λ w. ⊎_elim
-    (λ k. inl (rw (w.0, le-leb t y.item k, le-leb t x.item (omega (arith, w.1))), rw (le-leb t x.item (omega (arith, w.1))) k))
-    (λ k. inr (rw (w.0, lt-leb t y.item k), ⊎_elim (λ j. rw (le-leb t x.item j) (omega (arith, k))) (λ j. rw (lt-leb t x.item j) w.1) (le_or_lt t x.item)))
-    (le_or_lt t y.item))
+    (λ w. inl (rw w.0, by_test (in_time x t) (λ k. rw k (λ s j. w.1 s (in_time_before x t k s j))) (λ k. rw k w.1)))
+    (λ w. by_test (in_time y t)
+    (λ k. inl (rw (w.0, k, w.1 t k), rw (w.1 t k) (in_time_before y t k)))
+    (λ k. inr (rw (w.0, k), by_test (in_time x t) (λ j. rw j (late_after y t k)) (λ j. rw j w.1))))
     h))
     (λ none. rw none h)
 
--- the items have numbers of 32 bits
-abbrev pub Small : List ℕ → Type 0
-Small l = All (λ t. t ≤ 0xFFFF_FFFF) l
-
 module _ (e : ℕ → Float) where
   -- the first zero of items in any order
-  abbrev pub found : List ℕ → Found
+  abbrev pub found : List ℕ → Option ℕ
   found l = first_zero e (sorted l)
 
-  pub found_more : (t : ℕ) (l : List ℕ) → t ≤ 0xFFFF_FFFF → found (t ∷ l) ≡ earlier (found l) t (e t)
+  pub found_more : (t : ℕ) (l : List ℕ) → found (t ∷ l) ≡ earlier (found l) t (e t)
   unfolding sorted_by
-  found_more t l h = first_insert e t (sorted l) h (sorted_ascending l)
+  found_more t l = first_insert e t (sorted l) (sorted_ascending l)
 
   -- none of the items has a zero
   abbrev pub NoZero : List ℕ → Type 0
   NoZero l = All (λ t. eq (e t) zero ≡ false) l
 
   -- items without a zero add nothing
-  pub found_right : (a b : List ℕ) → Small a → NoZero a → found (a ++ b) ≡ found b
+  pub found_right : (a b : List ℕ) → NoZero a → found (a ++ b) ≡ found b
   unfolding All earlier
-  found_right [] b s n = refl
-  found_right (t ∷ a) b s n = found_more t (a ++ b) s.0 ∙ rw n.0 (found_right a b s.1 n.1)
+  found_right [] b n = refl
+  found_right (t ∷ a) b n = found_more t (a ++ b) ∙ rw n.0 (found_right a b n.1)
 
-  pub found_left : (a b : List ℕ) → Small a → Small b → NoZero b → found (a ++ b) ≡ found a
+  pub found_left : (a b : List ℕ) → NoZero b → found (a ++ b) ≡ found a
   unfolding All
-  found_left [] b s u n = rw (append-nil b) at (found_right b [] u n)
-  found_left (t ∷ a) b s u n = rw (found_more t (a ++ b) s.0, found_more t a s.0, found_left a b s.1 u n)
-
-  found_small : (l : List ℕ) → Small l → (first_zero e l).item ≤ 0xFFFF_FFFF
-  unfolding first_zero no_zero All
-  found_small [] s = omega arith
-  found_small (t ∷ l) s = by_test (eq (e t) zero) (λ z. rw z s.0) (λ z. rw z (found_small l s.1))
+  found_left [] b n = rw (append-nil b) at (found_right b [] n)
+  found_left (t ∷ a) b n = rw (found_more t (a ++ b), found_more t a, found_left a b n)
 
   -- the first zero of two lists is that of one of them
-  found_first : (a b : List ℕ) → Small a → Small b → First (found a) (found b) (found (a ++ b))
-  unfolding All
-  found_first [] b s u = inr (refl, unfold sorted_by first_zero no_zero in found_small (sorted b) (all_sorted_by _ (λ x. x) b u))
-  found_first (t ∷ a) b s u =
-      rw (found_more t (a ++ b) s.0, found_more t a s.0) (earlier_first (found a) (found b) (found (a ++ b)) t (e t) (found_first a b s.1 u))
+  found_first : (a b : List ℕ) → First (found a) (found b) (found (a ++ b))
+  unfolding sorted_by first_zero
+  found_first [] b = inr (refl, λ s h. refl)
+  found_first (t ∷ a) b =
+      rw (found_more t (a ++ b), found_more t a) (earlier_first (found a) (found b) (found (a ++ b)) t (e t) (found_first a b))
 
-  pub found_either : (a b : List ℕ) → Small a → Small b → (found (a ++ b) ≡ found a) ⊎ (found (a ++ b) ≡ found b)
-  found_either a b s u = ⊎_elim (λ w. inl w.0) (λ w. inr w.0) (found_first a b s u)
+  pub found_either : (a b : List ℕ) → (found (a ++ b) ≡ found a) ⊎ (found (a ++ b) ≡ found b)
+  found_either a b = ⊎_elim (λ w. inl w.0) (λ w. inr w.0) (found_first a b)
+
+  -- it is one of the items
+  pub first_is_item : (P : ℕ → Type 0) (l : List ℕ) → All P l → IfSome (first_zero e l) P
+  unfolding first_zero All
+  first_is_item P [] a = tt
+  first_is_item P (t ∷ rest) a = by_test (eq (e t) zero) (λ z. rw z a.0) (λ z. rw z (first_is_item P rest a.1))

@@ -21,8 +21,8 @@ use Rattle.keys.specs.Sorting.{insert_by, sorted_by, sorted, All}
 use Rattle.keys.specs.SortingTheorems.{by_test, le_or_lt, insert_here, insert_past, all_map, all_sorted_by}
 use Rattle.keys.specs.Permutations.{all_append, all_split}
 use Rattle.mesh.specs.PermutedBoxes.{F64}
-use Rattle.extent.specs.Extent.{pick, first_zero, unlike}
-use Rattle.extent.specs.ExtentFirst.{Small, found, NoZero, found_right, found_left, found_either}
+use Rattle.extent.specs.Extent.{pick, first_zero, found_edge, zero_edge, unlike}
+use Rattle.extent.specs.ExtentFirst.{found, NoZero, found_right, found_left, found_either}
 
 -- ---- the order, taken either way
 
@@ -217,7 +217,7 @@ module _ (upper : Bool) (counts : ℕ → Bool) (e : ℕ → Float) where
             (before_trans upper v (picked (e t) rest) (e t) (before_zeros upper v (picked (e t) rest) z end) (picked_first (e t) rest q).0)
 
     -- from what is not zero on, a result that is zero is the first zero of the list
-    picked_zero : (v : Float) (l : List ℕ) → F64 v → T (not (eq v zero)) → T (eq (picked v l) zero) → picked v l ≡ (first_zero e l).edge
+    picked_zero : (v : Float) (l : List ℕ) → F64 v → T (not (eq v zero)) → T (eq (picked v l) zero) → picked v l ≡ zero_edge e l
     unfolding picked first_zero
     picked_zero v [] p n h = absurd (T_not (eq v zero) n h)
     picked_zero v (t ∷ rest) p n h =
@@ -247,15 +247,15 @@ module _ (upper : Bool) (counts : ℕ → Bool) (e : ℕ → Float) where
         (bound_picked a (inf upper) items start first.0 (all_unsorted _ items first.1))
         (bound_picked b (inf upper) (sorted items) start other.0 (all_sorted_by _ (λ x. x) items other.1)))
 
-    first_zero_lem : (l : List ℕ) → T (eq (least l) zero) → least l ≡ (first_zero e l).edge
+    first_zero_lem : (l : List ℕ) → T (eq (least l) zero) → least l ≡ zero_edge e l
     first_zero_lem l z = picked_zero (inf upper) l (infinity_f64 upper) (infinity_not_zero upper) z
 
     -- a zero is the first of the list
-    pub least_zero : (l : List ℕ) → T (is_zero (least l)) → least l ≡ (first_zero e l).edge
+    pub least_zero : (l : List ℕ) → T (is_zero (least l)) → least l ≡ zero_edge e l
     least_zero l z = first_zero_lem l (zero_eq (least l) (least_f64 l).number z)
 
     -- of sorted items it is the same if it is not zero, and otherwise the first zero
-    pub least_settled : (items : List ℕ) → least (sorted items) ≡ cond (eq (least items) zero) (first_zero e (sorted items)).edge (least items)
+    pub least_settled : (items : List ℕ) → least (sorted items) ≡ cond (eq (least items) zero) (zero_edge e (sorted items)) (least items)
     least_settled items =
         let equal = alike_eq (least_f64 (sorted items)).number (least_alike items) in
         by_test (eq (least items) zero)
@@ -278,7 +278,7 @@ module _ (upper : Bool) (counts : ℕ → Bool) (e : ℕ → Float) where
         (λ t b. by_test (eq (e t) zero) (λ w. absurd (rw h at (before_trans upper c (e t) r (b (given.zeros t (rw w tt))) (before_zeros upper (e t) r (rw w tt) z)))) (λ w. w))
         (below c l (before_refl upper c (least_f64 (sorted l)).number)).1
 
-    module _ (a b : List ℕ) (s : Small a) (u : Small b) where
+    module _ (a b : List ℕ) where
       abbrev whole : Float
       whole = least (sorted (a ++ b))
 
@@ -298,7 +298,7 @@ module _ (upper : Bool) (counts : ℕ → Bool) (e : ℕ → Float) where
       before_whole c h k = let p = below c a h in let q = below c b k in above c (a ++ b) p.0 (all_append _ a b p.1 q.1)
 
       -- the result of the whole is the one of a part that comes before the other, if that is the first zero where it is zero
-      whole_is : (v : Float) → F64 v → T (before upper v left) → T (before upper v right) → T (before upper whole v) → (T (eq v zero) → v ≡ (found e (a ++ b)).edge) → whole ≡ v
+      whole_is : (v : Float) → F64 v → T (before upper v left) → T (before upper v right) → T (before upper whole v) → (T (eq v zero) → v ≡ (found_edge e (found e (a ++ b)))) → whole ≡ v
       whole_is v p h k w first =
           let same = before_antisym upper whole v w (before_whole v h k) in
           by_test (eq v zero)
@@ -306,7 +306,7 @@ module _ (upper : Bool) (counts : ℕ → Bool) (e : ℕ → Float) where
           (λ n. not_zero p.number n (eq_alike binary64 whole v (least_f64 (sorted (a ++ b))).fit p.fit same))
 
       -- the result of the whole from those of its parts: it can be neither only if they are zeros of unlike sign
-      pub least_parts : whole ≡ cond (unlike left right) (found e (a ++ b)).edge (pick upper left right)
+      pub least_parts : whole ≡ cond (unlike left right) (found_edge e (found e (a ++ b))) (pick upper left right)
       unfolding unlike
       least_parts =
           by_test (before upper left right)
@@ -325,20 +325,20 @@ module _ (upper : Bool) (counts : ℕ → Bool) (e : ℕ → Float) where
           only_left : before upper left right ≡ true → before upper right left ≡ false → whole ≡ left
           only_left h k =
               whole_is left p (before_refl upper left p.number) (rw h tt) whole_before.0
-              (λ z. first_zero_lem (sorted a) z ∙ ap (λ f. f.edge) (sym (found_left e a b s u (no_zero_lem b left z k))))
+              (λ z. first_zero_lem (sorted a) z ∙ ap (found_edge e) (sym (found_left e a b (no_zero_lem b left z k))))
 
           only_right : before upper left right ≡ false → whole ≡ right
           only_right h =
               whole_is right q (before_turn upper left right p.number q.number (rw h tt)) (before_refl upper right q.number) whole_before.1
-              (λ z. first_zero_lem (sorted b) z ∙ ap (λ f. f.edge) (sym (found_right e a b s (no_zero_lem a right z h))))
+              (λ z. first_zero_lem (sorted b) z ∙ ap (found_edge e) (sym (found_right e a b (no_zero_lem a right z h))))
 
           one : left ≡ right → whole ≡ left
           one same =
               let self_before = before_refl upper left p.number in
               whole_is left p self_before (rw (← same) self_before) whole_before.0
-              (λ z. ⊎_elim (λ w. first_zero_lem (sorted a) z ∙ ap (λ f. f.edge) (sym w)) (λ w. same ∙ first_zero_lem (sorted b) (rw same at z) ∙ ap (λ f. f.edge) (sym w)) (found_either e a b s u))
+              (λ z. ⊎_elim (λ w. first_zero_lem (sorted a) z ∙ ap (found_edge e) (sym w)) (λ w. same ∙ first_zero_lem (sorted b) (rw same at z) ∙ ap (found_edge e) (sym w)) (found_either e a b))
 
-          both : before upper left right ≡ true → before upper right left ≡ true → whole ≡ cond (unlike left right) (found e (a ++ b)).edge (pick upper left right)
+          both : before upper left right ≡ true → before upper right left ≡ true → whole ≡ cond (unlike left right) (found_edge e (found e (a ++ b))) (pick upper left right)
           both h k =
               let equal = before_antisym upper left right (rw h tt) (rw k tt) in
               by_test (eqb (order_key left) (order_key right))

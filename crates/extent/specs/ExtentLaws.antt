@@ -1,7 +1,7 @@
 -- What the builder measures does not depend on the order of a node's items: `node_box_any_order` and `split_axis_any_order`. An inner node's box
 -- follows from those of its halves, and the axis from the box around the centres: `joined_halves` and `centers_axis`.
-use Rattle.std.specs.Prelude.{ℕ, ◌+◌, ◌*◌, ◌≤◌, ◌<◌, ◌≡◌, refl, Bool, true, false, cond, ◌||◌, List, [], ◌∷◌, ◌++◌, eqb, Float, get_or, take, drop}
-use Rattle.std.proofs.Common.{arith, sym, ap, ◌∙◌, take-append-drop}
+use Rattle.std.specs.Prelude.{ℕ, ◌+◌, ◌*◌, ◌≡◌, refl, Bool, true, false, cond, ◌||◌, List, [], ◌∷◌, ◌++◌, eqb, Float, get_or, take, drop}
+use Rattle.std.proofs.Common.{sym, ap, ◌∙◌, take-append-drop}
 use Rattle.std.proofs.Math.Path.{ap₂}
 use Rattle.std.proofs.Math.Dec.{T}
 use Rattle.std.specs.Float.{nan, inf, fin}
@@ -11,8 +11,6 @@ use Rattle.float.specs.Arithmetic.{zero, ◌⊖◌}
 use Rattle.float.specs.Rules as Rules
 use Rattle.float.specs.Order.{Number, finite_number, min_top, max_bottom}
 use Rattle.keys.specs.Sorting.{sorted}
-use Rattle.keys.specs.SortingTheorems.{all_of}
-use Rattle.keys.specs.Permutations.{all_split}
 use Rattle.math.specs.declared.Vec3.{Vec3}
 use Rattle.math.specs.declared.BoundingBox.{BoundingBox}
 use Rattle.math.specs.Vectors as Vectors
@@ -23,10 +21,9 @@ use Rattle.mesh.specs.Mesh.{Mesh, own_box}
 use Rattle.builder.specs.BuilderLaws.{each, center_fits}
 use Rattle.builder.specs.Builder.{center_of, center_on, lowest, highest, spread, wider, split_axis, join_all, node_box}
 use Rattle.tree.specs.JoinLaws.{NumberBox, own_box_numbers}
-use Rattle.extent.specs.Extent.{lower_center, higher_center, with_center, with_centers, wider_axis, widest_axis, edge, own_edge, pick, settled_edge, settled_box, joined_edge, joined_box}
+use Rattle.extent.specs.Extent.{end_with, with_center, with_centers, wider_axis, widest_axis, edge, own_edge, pick, settled_edge, settled_box, joined_edge, joined_end, joined_box}
 use Rattle.extent.specs.ExtentZeros.{sub_same}
 use Rattle.extent.specs.ExtentFolds.{next, picked, least, Floats, least_alike, least_zero, least_settled, least_parts}
-use Rattle.extent.specs.ExtentFirst.{Small}
 
 -- ---- components
 
@@ -46,7 +43,7 @@ join_edge false axis a b = three Rules.min (eqb axis 0) (eqb axis 1) _ _ _ _ _ _
 join_edge true axis a b = three Rules.max (eqb axis 0) (eqb axis 1) _ _ _ _ _ _
 
 with_center_edge : (upper : Bool) (axis : ℕ) (b : BoundingBox) (c : Vec3) → edge upper axis (with_center b c) ≡ cond (Rules.is_finite (component c axis)) (pick upper (edge upper axis b) (component c axis)) (edge upper axis b)
-unfolding edge with_center component lower_center higher_center pick
+unfolding edge with_center component end_with pick
 with_center_edge false axis b c = three (λ lo x. cond (Rules.is_finite x) (Rules.min lo x) lo) (eqb axis 0) (eqb axis 1) _ _ _ _ _ _
 with_center_edge true axis b c = three (λ hi x. cond (Rules.is_finite x) (Rules.max hi x) hi) (eqb axis 0) (eqb axis 1) _ _ _ _ _ _
 
@@ -165,9 +162,13 @@ joined_picked m upper axis b (t ∷ rest) =
 node_box_least : (m : Mesh) (upper : Bool) (axis : ℕ) (l : List ℕ) → edge upper axis (node_box m l) ≡ least upper always (own_edge m upper axis) l
 node_box_least m upper axis l = rw node_box_joined (joined_picked m upper axis empty l ∙ ap (λ v. picked upper always (own_edge m upper axis) v l) (empty_edge upper axis))
 
--- every coordinate is of the format f64, as those of a lent list are
+-- every float is of the format f64, as those of a lent list are
+abbrev pub FitFloats : List Float → Type 0
+FitFloats list = (i : ℕ) → T (fits binary64 (get_or list i nan))
+
+-- every coordinate is
 abbrev pub Fit : Mesh → Type 0
-Fit m = (i : ℕ) → T (fits binary64 (get_or m.coords i nan))
+Fit m = FitFloats m.coords
 
 pick_fits : (upper : Bool) (a b : Float) → T (fits binary64 a) → T (fits binary64 b) → T (fits binary64 (pick upper a b))
 unfolding pick Rules.min Rules.max
@@ -203,11 +204,11 @@ module _ (m : Mesh) (fit : Fit m) (upper : Bool) (axis : ℕ) where
       rw (node_box_least m upper axis (sorted items), node_box_least m upper axis items) (least_settled upper always (own_edge m upper axis) own_edges items)
 
   -- an edge of a node's box from those of its two halves
-  edge_halves : (a b : List ℕ) → Small a → Small b → edge upper axis (node_box m (sorted (a ++ b))) ≡ joined_edge m (a ++ b) upper axis (edge upper axis (node_box m (sorted a))) (edge upper axis (node_box m (sorted b)))
+  edge_halves : (a b : List ℕ) → edge upper axis (node_box m (sorted (a ++ b))) ≡ joined_edge m (a ++ b) upper axis (edge upper axis (node_box m (sorted a))) (edge upper axis (node_box m (sorted b)))
   unfolding joined_edge
-  edge_halves a b s u =
+  edge_halves a b =
       rw (node_box_least m upper axis (sorted (a ++ b)), node_box_least m upper axis (sorted a), node_box_least m upper axis (sorted b))
-      (least_parts upper always (own_edge m upper axis) own_edges a b s u)
+      (least_parts upper always (own_edge m upper axis) own_edges a b)
 
 -- a node's box, joined in any order: an edge that is not zero is the same, and one that is zero has the sign of the lowest-numbered triangle
 -- whose edge is zero
@@ -217,14 +218,12 @@ node_box_any_order m fit items =
     rw
     (← edge_any_order m fit false 0 items, ← edge_any_order m fit false 1 items, ← edge_any_order m fit false 2 items, ← edge_any_order m fit true 0 items, ← edge_any_order m fit true 1 items, ← edge_any_order m fit true 2 items)
 
-joined_parts : (m : Mesh) → Fit m → (a b : List ℕ) → Small a → Small b → node_box m (sorted (a ++ b)) ≡ joined_box m (a ++ b) (node_box m (sorted a)) (node_box m (sorted b))
-unfolding joined_box edge component
-joined_parts m fit a b s u =
+joined_parts : (m : Mesh) → Fit m → (a b : List ℕ) → node_box m (sorted (a ++ b)) ≡ joined_box m (a ++ b) (node_box m (sorted a)) (node_box m (sorted b))
+unfolding joined_box joined_end edge component
+joined_parts m fit a b =
     rw
-    (← edge_halves m fit false 0 a b s u, ← edge_halves m fit false 1 a b s u, ← edge_halves m fit false 2 a b s u, ← edge_halves m fit true 0 a b s u, ← edge_halves m fit true 1 a b s u, ← edge_halves m fit true 2 a b s u)
+    (← edge_halves m fit false 0 a b, ← edge_halves m fit false 1 a b, ← edge_halves m fit false 2 a b, ← edge_halves m fit true 0 a b, ← edge_halves m fit true 1 a b, ← edge_halves m fit true 2 a b)
 
 -- the box of an inner node is that of its halves joined, whose items may stand in any order
-pub joined_halves : (m : Mesh) → Fit m → (items : List ℕ) (half : ℕ) → ((i : ℕ) → get_or items i 0 < 4294967296) → joined_box m items (node_box m (sorted (take half items))) (node_box m (sorted (drop half items))) ≡ node_box m (sorted items)
-joined_halves m fit items half small =
-    let parts = all_split (λ t. t ≤ 0xFFFF_FFFF) (take half items) (drop half items) (rw (take-append-drop half items) (all_of (λ t. t ≤ 0xFFFF_FFFF) items (λ i h. omega (arith, small i)))) in
-    sym (rw (take-append-drop half items) at (joined_parts m fit (take half items) (drop half items) parts.0 parts.1))
+pub joined_halves : (m : Mesh) → Fit m → (items : List ℕ) (half : ℕ) → joined_box m items (node_box m (sorted (take half items))) (node_box m (sorted (drop half items))) ≡ node_box m (sorted items)
+joined_halves m fit items half = sym (rw (take-append-drop half items) at (joined_parts m fit (take half items) (drop half items)))

@@ -5,198 +5,17 @@
 ghost use Rattle.std.specs.Prelude.{◌≡◌, ◌<◌, length, take, drop};
 ghost use Rattle.keys.specs.Sorting.{sorted};
 ghost use Rattle.math.specs.Boxes as Boxes;
+ghost use Rattle.mesh.specs.Axes as Axes;
 ghost use Rattle.mesh.specs.Items as Items;
-ghost use Rattle.mesh.specs.Mesh as Mesh;
 ghost use Rattle.builder.specs.Builder as Builder;
 ghost use Rattle.extent.specs.Extent as Extents;
+ghost use Rattle.extent.specs.ExtentLaws as ExtentLaws;
 
 use math::{BoundingBox, Vec3};
-use mesh::boxes::own_box;
-
-// The lower of `lo` and a centre; one that is not finite does not count.
-fn lower_center(lo: f64, c: f64) -> f64
-    ensures { result ≡ Extents.lower_center lo c }
-{
-    if float::is_finite(c) {
-        float::min(lo, c)
-    } else {
-        lo
-    }
-}
-
-// The higher of `hi` and a centre; one that is not finite does not count.
-fn higher_center(hi: f64, c: f64) -> f64
-    ensures { result ≡ Extents.higher_center hi c }
-{
-    if float::is_finite(c) {
-        float::max(hi, c)
-    } else {
-        hi
-    }
-}
-
-// A box around centres, and one centre more.
-fn with_center(b: BoundingBox, c: Vec3) -> BoundingBox
-    ensures { result ≡ Extents.with_center b c }
-{
-    BoundingBox {
-        min: Vec3 {
-            x: lower_center(b.min.x, c.x),
-            y: lower_center(b.min.y, c.y),
-            z: lower_center(b.min.z, c.z),
-        },
-        max: Vec3 {
-            x: higher_center(b.max.x, c.x),
-            y: higher_center(b.max.y, c.y),
-            z: higher_center(b.max.z, c.z),
-        },
-    }
-}
-
-// On each axis the lowest and the highest finite centre of the items.
-fn centers_of(
-    coords: &[f64],
-    corners: &[u32],
-    ends: &[u32],
-    sides: usize,
-    items: &[u32],
-) -> BoundingBox
-    requires { Items.Items (Mesh.mesh coords.now corners.now ends.now) sides items.now }
-    ensures { result ≡ Extents.with_centers (Mesh.mesh coords.now corners.now ends.now) Boxes.empty items.now }
-{
-    let mut b = BoundingBox::empty();
-    let mut j = 0;
-    while j < items.len() {
-        let triangle = mesh::triangles::triangle(corners, ends, sides, items[j] as usize);
-        let own = mesh::boxes::finite_box(coords, triangle);
-        b = with_center(b, own.center());
-        j += 1;
-    }
-    b
-}
-
-// The axis of greatest size, the last on a tie.
-fn widest_axis(size: Vec3) -> usize
-    ensures { result ≡ Extents.widest_axis size }
-{
-    let x = float::order_key(size.x);
-    let y = float::order_key(size.y);
-    let z = float::order_key(size.z);
-    if x <= y {
-        return if y <= z { 2 } else { 1 };
-    }
-    if x <= z { 2 } else { 0 }
-}
-
-// The upper edge of a box on an axis, or the lower one.
-fn edge(upper: bool, axis: u64, b: BoundingBox) -> f64
-    ensures { result ≡ Extents.edge upper axis b }
-{
-    if upper {
-        b.max.component(axis)
-    } else {
-        b.min.component(axis)
-    }
-}
-
-// The rank half way between the lowest and the highest centre on an axis; 0 where it would be that of a
-// NaN.
-fn middle_rank(centers: BoundingBox, axis: u64) -> u64
-    ensures { result < 18446744073709551615 }
-{
-    let lo = edge(false, axis, centers);
-    let hi = edge(true, axis, centers);
-    let key = float::order_key((lo + hi) * 0.5);
-    if key < 0xFFFF_FFFF_FFFF_FFFF { key } else { 0 }
-}
-
-// The axis on which a node's items are split, and a rank near their middle on it (a guess: nothing is
-// promised of it).
-#[derive(Clone, Copy)]
-pub struct Split {
-    pub axis: usize,
-    pub pivot: u64,
-}
-
-// How a node's items are split, in whatever order they stand.
-pub fn split_of(coords: &[f64], corners: &[u32], ends: &[u32], sides: usize, items: &[u32]) -> Split
-    requires { Items.Items (Mesh.mesh coords.now corners.now ends.now) sides items.now }
-    ensures { (result.axis ≡ Builder.split_axis (Mesh.mesh coords.now corners.now ends.now) (sorted items.now)) × (result.pivot < 18446744073709551615) }
-{
-    let centers = centers_of(coords, corners, ends, sides, items);
-    let axis = widest_axis(centers.size());
-    Split {
-        axis: axis,
-        pivot: middle_rank(centers, axis as u64),
-    }
-}
-
-// The box of a leaf, whose items are sorted: their own boxes joined in their order.
-pub fn leaf_box(
-    coords: &[f64],
-    corners: &[u32],
-    ends: &[u32],
-    sides: usize,
-    items: &[u32],
-) -> BoundingBox
-    requires { Items.Items (Mesh.mesh coords.now corners.now ends.now) sides items.now × (0 < length items.now) }
-    ensures { result ≡ Builder.node_box (Mesh.mesh coords.now corners.now ends.now) items.now }
-{
-    let mut b = own_box(coords, corners, ends, sides, items[0]);
-    let mut j = 1;
-    while j < items.len() {
-        b = b.join(own_box(coords, corners, ends, sides, items[j]));
-        j += 1;
-    }
-    b
-}
-
-// The lowest-numbered item so far whose edge is zero, and that edge.
-#[derive(Clone, Copy)]
-struct Found {
-    item: u32,
-    edge: f64,
-}
-
-// What was found, or item `t` if its edge is zero and it does not come later.
-fn earlier(found: Found, t: u32, e: f64) -> Found
-    ensures { result ≡ Extents.earlier found t e }
-{
-    if (e == 0.0) & (t <= found.item) {
-        Found { item: t, edge: e }
-    } else {
-        found
-    }
-}
-
-// The upper edge on an axis, or the lower one, of the lowest-numbered item in whose own box it is zero.
-fn zero_edge(
-    coords: &[f64],
-    corners: &[u32],
-    ends: &[u32],
-    sides: usize,
-    items: &[u32],
-    upper: bool,
-    axis: u64,
-) -> f64
-    requires { Items.Items (Mesh.mesh coords.now corners.now ends.now) sides items.now }
-    ensures { result ≡ (Extents.first_zero (Extents.own_edge (Mesh.mesh coords.now corners.now ends.now) upper axis) (sorted items.now)).edge }
-{
-    let mut found = Found {
-        item: 0xFFFF_FFFF,
-        edge: 0.0,
-    };
-    let mut j = items.len();
-    while j > 0 {
-        j -= 1;
-        let t = items[j];
-        let b = own_box(coords, corners, ends, sides, t);
-        found = earlier(found, t, edge(upper, axis, b));
-    }
-    found.edge
-}
+use mesh::{AcceptedMesh, Axis};
 
 // The smaller of two, or the larger.
+#[tactic(auto, unfolding(crate::specs::Extent::pick))]
 fn pick(upper: bool, a: f64, b: f64) -> f64
     ensures { result ≡ Extents.pick upper a b }
 {
@@ -207,7 +26,149 @@ fn pick(upper: bool, a: f64, b: f64) -> f64
     }
 }
 
+// An end of a box around centres, and one centre more; one that is not finite does not count.
+#[tactic(auto, unfolding(crate::specs::Extent::end_with))]
+fn end_with(upper: bool, end: f64, c: f64) -> f64
+    ensures { result ≡ Extents.end_with upper end c }
+{
+    if float::is_finite(c) {
+        pick(upper, end, c)
+    } else {
+        end
+    }
+}
+
+// A box around centres, and one centre more.
+#[tactic(auto, unfolding(crate::specs::Extent::with_center))]
+fn with_center(b: BoundingBox, c: Vec3) -> BoundingBox
+    ensures { result ≡ Extents.with_center b c }
+{
+    BoundingBox {
+        min: Vec3 {
+            x: end_with(false, b.min.x, c.x),
+            y: end_with(false, b.min.y, c.y),
+            z: end_with(false, b.min.z, c.z),
+        },
+        max: Vec3 {
+            x: end_with(true, b.max.x, c.x),
+            y: end_with(true, b.max.y, c.y),
+            z: end_with(true, b.max.z, c.z),
+        },
+    }
+}
+
+// On each axis the lowest and the highest finite centre of the items.
+fn centers_of(mesh: &AcceptedMesh, items: &[u32]) -> BoundingBox
+    requires { Items.Items mesh.now items.now }
+    ensures { result ≡ Extents.with_centers mesh.now Boxes.empty items.now }
+{
+    let mut b = BoundingBox::empty();
+    for t in items {
+        b = with_center(b, mesh.own_box(*t).center());
+    }
+    b
+}
+
+// The axis of greatest size, the last on a tie.
+#[tactic(auto, unfolding(crate::specs::Extent::widest_axis, crate::specs::Extent::wider_axis, math::specs::Vectors::component))]
+fn widest_axis(size: Vec3) -> Axis
+    ensures { Axes.place result ≡ Extents.widest_axis size }
+{
+    let x = float::order_key(size.x);
+    let y = float::order_key(size.y);
+    let z = float::order_key(size.z);
+    if x <= y {
+        return if y <= z { Axis::Z } else { Axis::Y };
+    }
+    if x <= z { Axis::Z } else { Axis::X }
+}
+
+// The upper edge of a box on an axis, or the lower one.
+#[tactic(auto, unfolding(crate::specs::Extent::edge, math::specs::Vectors::component))]
+fn edge(upper: bool, axis: Axis, b: BoundingBox) -> f64
+    ensures { result ≡ Extents.edge upper (Axes.place axis) b }
+{
+    let end = if upper { b.max } else { b.min };
+    match axis {
+        Axis::X => end.x,
+        Axis::Y => end.y,
+        Axis::Z => end.z,
+    }
+}
+
+// The rank half way between the lowest and the highest centre on an axis; 0 where it would be that of a
+// NaN.
+fn middle_rank(centers: BoundingBox, axis: Axis) -> u64
+    ensures { result < 18446744073709551615 }
+{
+    let lo = edge(false, axis, centers);
+    let hi = edge(true, axis, centers);
+    let key = float::order_key((lo + hi) * 0.5);
+    if key < u64::MAX { key } else { 0 }
+}
+
+// The axis on which a node's items are split, and a rank near their middle on it (a guess: nothing is
+// promised of it).
+#[derive(Clone, Copy)]
+pub struct Split {
+    pub axis: Axis,
+    pub pivot: u64,
+}
+
+// How a node's items are split, in whatever order they stand.
+pub fn split_of(mesh: &AcceptedMesh, items: &[u32]) -> Split
+    requires { Items.Items mesh.now items.now }
+    ensures { (Axes.place result.axis ≡ Builder.split_axis mesh.now (sorted items.now)) × (result.pivot < 18446744073709551615) }
+{
+    let centers = centers_of(mesh, items);
+    let axis = widest_axis(centers.size());
+    Split {
+        axis,
+        pivot: middle_rank(centers, axis),
+    }
+}
+
+// The box of a leaf, whose items are sorted: their own boxes joined in their order.
+pub fn leaf_box(mesh: &AcceptedMesh, items: &[u32]) -> BoundingBox
+    requires { Items.Items mesh.now items.now × (0 < length items.now) }
+    ensures { result ≡ Builder.node_box mesh.now items.now }
+{
+    let mut b = mesh.own_box(items[0]);
+    for t in &items[1..] {
+        b = b.join(mesh.own_box(*t));
+    }
+    b
+}
+
+// The lowest-numbered item so far whose edge is zero, or item `t` if its edge `e` is zero and it does not come later.
+#[tactic(auto, unfolding(crate::specs::Extent::earlier))]
+fn earlier(found: Option<u32>, t: u32, e: f64) -> Option<u32>
+    ensures { result ≡ Extents.earlier found t e }
+{
+    if (e == 0.0) & found.is_none_or(|first| t <= first) {
+        Some(t)
+    } else {
+        found
+    }
+}
+
+// The upper edge on an axis, or the lower one, of the lowest-numbered item in whose own box it is zero; 0 if there is none.
+fn zero_edge(mesh: &AcceptedMesh, items: &[u32], upper: bool, axis: Axis) -> f64
+    requires { Items.Items mesh.now items.now }
+    ensures { result ≡ Extents.zero_edge (Extents.own_edge mesh.now upper (Axes.place axis)) (sorted items.now) }
+{
+    let mut found = None;
+    for t in items {
+        found = earlier(found, *t, edge(upper, axis, mesh.own_box(*t)));
+    }
+    match found {
+        Some(t) => edge(upper, axis, mesh.own_box(t)),
+        None => 0.0,
+    }
+}
+
 // Whether two floats are equal as numbers and not the same: zeros of unlike sign.
+#[tactic(auto, unfolding(crate::specs::Extent::unlike))]
 fn unlike(a: f64, b: f64) -> bool
     ensures { result ≡ Extents.unlike a b }
 {
@@ -216,110 +177,49 @@ fn unlike(a: f64, b: f64) -> bool
 
 // An edge of the box of items from those of their halves: only of zeros of unlike sign it depends on the
 // items.
-fn joined_edge(
-    coords: &[f64],
-    corners: &[u32],
-    ends: &[u32],
-    sides: usize,
-    items: &[u32],
-    upper: bool,
-    axis: u64,
-    a: f64,
-    b: f64,
-) -> f64
-    requires { Items.Items (Mesh.mesh coords.now corners.now ends.now) sides items.now }
-    ensures { result ≡ Extents.joined_edge (Mesh.mesh coords.now corners.now ends.now) items.now upper axis a b }
+#[tactic(auto, unfolding(crate::specs::Extent::joined_edge))]
+fn joined_edge(mesh: &AcceptedMesh, items: &[u32], upper: bool, axis: Axis, a: f64, b: f64) -> f64
+    requires { Items.Items mesh.now items.now }
+    ensures { result ≡ Extents.joined_edge mesh.now items.now upper (Axes.place axis) a b }
 {
     if unlike(a, b) {
-        return zero_edge(coords, corners, ends, sides, items, upper, axis);
+        return zero_edge(mesh, items, upper, axis);
     }
     pick(upper, a, b)
 }
 
+// The three upper edges, or the lower ones.
+#[tactic(auto, unfolding(crate::specs::Extent::joined_end))]
+fn joined_end(mesh: &AcceptedMesh, items: &[u32], upper: bool, a: Vec3, b: Vec3) -> Vec3
+    requires { Items.Items mesh.now items.now }
+    ensures { result ≡ Extents.joined_end mesh.now items.now upper a b }
+{
+    Vec3 {
+        x: joined_edge(mesh, items, upper, Axis::X, a.x, b.x),
+        y: joined_edge(mesh, items, upper, Axis::Y, a.y, b.y),
+        z: joined_edge(mesh, items, upper, Axis::Z, a.z, b.z),
+    }
+}
+
+// The type of a lent list says that its floats are of the format f64; a mesh's fields are seen as lists without it.
+fn lent_floats(list: &[f64])
+    ensures { ExtentLaws.FitFloats list.now }
+{}
+
 // The box of an inner node from those of its halves: the first `half` items, and the others.
 pub fn inner_box(
-    coords: &[f64],
-    corners: &[u32],
-    ends: &[u32],
-    sides: usize,
+    mesh: &AcceptedMesh,
     items: &[u32],
     half: usize,
     left: BoundingBox,
     right: BoundingBox,
 ) -> BoundingBox
-    requires { Items.Items (Mesh.mesh coords.now corners.now ends.now) sides items.now × (0 < half) × (half < length items.now) × (left ≡ Builder.node_box (Mesh.mesh coords.now corners.now ends.now) (sorted (take half items.now))) × (right ≡ Builder.node_box (Mesh.mesh coords.now corners.now ends.now) (sorted (drop half items.now))) }
-    ensures { result ≡ Builder.node_box (Mesh.mesh coords.now corners.now ends.now) (sorted items.now) }
+    requires { Items.Items mesh.now items.now × (0 < half) × (half < length items.now) × (left ≡ Builder.node_box mesh.now (sorted (take half items.now))) × (right ≡ Builder.node_box mesh.now (sorted (drop half items.now))) }
+    ensures { result ≡ Builder.node_box mesh.now (sorted items.now) }
 {
+    lent_floats(mesh.coords);
     BoundingBox {
-        min: Vec3 {
-            x: joined_edge(
-                coords,
-                corners,
-                ends,
-                sides,
-                items,
-                false,
-                0,
-                left.min.x,
-                right.min.x,
-            ),
-            y: joined_edge(
-                coords,
-                corners,
-                ends,
-                sides,
-                items,
-                false,
-                1,
-                left.min.y,
-                right.min.y,
-            ),
-            z: joined_edge(
-                coords,
-                corners,
-                ends,
-                sides,
-                items,
-                false,
-                2,
-                left.min.z,
-                right.min.z,
-            ),
-        },
-        max: Vec3 {
-            x: joined_edge(
-                coords,
-                corners,
-                ends,
-                sides,
-                items,
-                true,
-                0,
-                left.max.x,
-                right.max.x,
-            ),
-            y: joined_edge(
-                coords,
-                corners,
-                ends,
-                sides,
-                items,
-                true,
-                1,
-                left.max.y,
-                right.max.y,
-            ),
-            z: joined_edge(
-                coords,
-                corners,
-                ends,
-                sides,
-                items,
-                true,
-                2,
-                left.max.z,
-                right.max.z,
-            ),
-        },
+        min: joined_end(mesh, items, false, left.min, right.min),
+        max: joined_end(mesh, items, true, left.max, right.max),
     }
 }

@@ -1,46 +1,30 @@
-use Prim.Native.Nat.{◌≤◌}
-use native.Mathlib.Omega.{arith}
-use mathlib.Core.Path.{◌≡◌, sym, ◌∙◌}
-use mathlib.Core.List.{[]}
-use lib.ListN.{length, drop, drop_of_length-le}
-use Rattle.mesh.specs.Mesh.{mesh}
+use Rattle.std.proofs.Common.{ℕ, ◌+◌, ◌-◌, ◌<◌, ◌≡◌, List, sym, ◌∙◌, arith, length, take, drop, drop_of_length-le, length-drop, get_or-drop}
+use lib.Seq.{take_all}
 use Rattle.builder.specs.Builder.{join_all}
 use Rattle.extent.specs.ExtentLoops.{node_box_first, join_all_next}
 use Rattle.extent.proofs.leaf_box.Goals as goal
 
-pub own_box-b-requires : goal.own_box-b-requires
-own_box-b-requires c =
-    let known = c.requires in
-    (known.0.accepted, known.0.sides, known.0.below 0 known.1)
+-- the items behind the first
+rest : (items : List ℕ) → take (length items - 1) (drop 1 items) ≡ drop 1 items
+rest items = take_all (length items - 1) (drop 1 items) (omega (arith, length-drop 1 items))
 
-pub loop-j-init : goal.loop-j-init
-loop-j-init c =
-    let a = c.args in
-    let m = mesh a.coords.now a.corners.now a.ends.now in
-    (c.requires.1, rw c.own_box-b.ensures (sym (node_box_first m a.items.now c.requires.1)))
+pub loop-t-init : goal.loop-t-init
+loop-t-init c = rw (rest c.args.items.now, c.own_box-b.ensures, node_box_first c.args.mesh.now c.args.items.now c.requires.1)
 
 pub own_box-requires : goal.own_box-requires
 own_box-requires c =
-    let known = c.requires.0 in
-    (known.accepted, known.sides, known.below c.loop-j.j c.loop-j-test.true)
+    let items = c.args.items.now in
+    let i = c.loop-t.t-index in
+    let less : i < length (drop 1 items) = rw (rest items) at c.loop-t-test.true in
+    rw (rest items, get_or-drop 1 items i 0) (c.requires.0 (1 + i) (omega (arith, length-drop 1 items)))
 
-pub overflow_add-j : goal.overflow_add-j
-overflow_add-j c = omega (arith, c.loop-j-test.true, c.well_formed.1.1.1.1.0.0)
-
-pub loop-j-smaller : goal.loop-j-smaller
-loop-j-smaller c = omega (arith, c.loop-j-test.true)
-
-pub loop-j-preserved : goal.loop-j-preserved
-loop-j-preserved c =
-    let a = c.args in
-    let m = mesh a.coords.now a.corners.now a.ends.now in
-    let next = join_all_next m c.loop-j.b a.items.now c.loop-j.j c.loop-j-test.true in
-    (omega (arith, c.loop-j-test.true), rw (c.join-b.ensures, c.own_box.ensures) (sym next ∙ c.loop-j.invariant.1))
+pub loop-t-preserved : goal.loop-t-preserved
+loop-t-preserved c =
+    let next = join_all_next c.args.mesh.now c.loop-t.b _ c.loop-t.t-index c.loop-t-test.true in
+    rw (c.join-b.ensures, c.own_box.ensures) (sym next ∙ c.loop-t.invariant)
 
 pub returns : goal.returns
 unfolding join_all
 returns c =
-    let a = c.args in
-    let past : length a.items.now ≤ c.loop-j.j = c.loop-j-test.false in
-    let none : drop c.loop-j.j a.items.now ≡ [] = drop_of_length-le a.items.now past in
-    rw none at c.loop-j.invariant.1
+    let items = c.args.items.now in
+    rw (drop_of_length-le (take (length items - 1) (drop 1 items)) {i = c.loop-t.t-index} (omega arith)) at c.loop-t.invariant

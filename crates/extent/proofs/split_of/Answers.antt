@@ -1,10 +1,7 @@
 -- `split_of` meets its contract: the axis on which the box around the centres is widest is that of the node, whatever the items' order.
-use Rattle.mesh.specs.Mesh.{mesh}
 use Rattle.extent.specs.ExtentLaws.{centers_axis}
 use Rattle.extent.proofs.split_of.Goals as goal
 
 pub returns : goal.returns
 returns c =
-    let a = c.args in
-    let m = mesh a.coords.now a.corners.now a.ends.now in
-    (rw (c.widest_axis-axis.ensures, c.size.ensures, c.centers_of-centers.ensures) (centers_axis m a.items.now), c.middle_rank.ensures)
+    (rw (c.widest_axis-axis.ensures, c.size.ensures, c.centers_of-centers.ensures) (centers_axis c.args.mesh.now c.args.items.now), c.middle_rank.ensures)
