@@ -8,8 +8,8 @@ use Rattle.builder.specs.Builder.{node_box, tree_over, size, box_list, node_list
 use Rattle.subtree.specs.declared.Subtree.{Subtree}
 
 -- there is room for the subtree over items in lists of these lengths, from node n and item place i on, and its numbers are small
-pub record Room (m : Mesh) (sides boxes nodes : ℕ) (items : List ℕ) (n i : ℕ) : Type 0 where
-  pub given : Items m sides items
+pub record Room (m : Mesh) (boxes nodes : ℕ) (items : List ℕ) (n i : ℕ) : Type 0 where
+  pub given : Items m items
   pub some : 0 < length items
   pub for_boxes : 6 * (n + size (tree_over m (sorted items))) ≤ boxes
   pub for_nodes : 2 * (n + size (tree_over m (sorted items))) ≤ nodes

@@ -13,7 +13,7 @@ use Rattle.mesh.specs.Mesh.{Mesh}
 use Rattle.mesh.specs.Items.{Items}
 use Rattle.builder.specs.Builder.{split_axis, node_box, edges, BoxTree, leaf_node, inner_node, tree_over, size, box_list, node_list, item_list}
 use Rattle.builder.specs.BuilderLaws.{tree_over_leaf, tree_over_inner, count_tree_over, length_tree_over, length_box_list, length_node_list}
-use Rattle.median.specs.Node.{items_permuted, items_take, items_drop}
+use Rattle.median.specs.Node.{Small, items_permuted, items_take, items_drop}
 use Rattle.median.specs.Median.{Selected}
 use Rattle.median.specs.MedianTheorem.{left_half, right_half}
 use Rattle.subtree.specs.declared.Subtree.{Subtree}
@@ -57,7 +57,7 @@ size_some (leaf_node b items) = omega arith
 size_some (inner_node b left right) = omega arith
 
 -- every subtree has a node
-pub room_one : {m : Mesh} {sides boxes nodes : ℕ} {items : List ℕ} {n i : ℕ} → Room m sides boxes nodes items n i → (6 * n + 6 ≤ boxes) × (2 * n + 2 ≤ nodes)
+pub room_one : {m : Mesh} {boxes nodes : ℕ} {items : List ℕ} {n i : ℕ} → Room m boxes nodes items n i → (6 * n + 6 ≤ boxes) × (2 * n + 2 ≤ nodes)
 room_one {m} {items = items} room =
     let some = size_some (tree_over m (sorted items)) in
     (omega (arith, room.for_boxes), omega (arith, room.for_nodes))
@@ -77,7 +77,14 @@ leaf_writes m boxes nodes items n i result few end bounds =
     }
 
 -- an inner node: the items, lent as ₀, after the median split
-module _ (m : Mesh) (sides axis n i : ℕ) (boxes₀ : List Float) (nodes₀ items₀ items : List ℕ) (room : Room m sides (length boxes₀) (length nodes₀) items₀ n i) (axis_is : axis ≡ split_axis m (sorted items₀)) (split : Selected m axis (length items₀ / 2) items₀ items) (many : 4 < length items₀) where
+pub record Halved (m : Mesh) (axis boxes nodes : ℕ) (items₀ items : List ℕ) (n i : ℕ) : Type 0 where
+  pub room : Room m boxes nodes items₀ n i
+  pub many : 4 < length items₀
+  pub axis_is : axis ≡ split_axis m (sorted items₀)
+  pub split : Selected m axis (length items₀ / 2) items₀ items
+  pub small : Small items
+
+module _ {m : Mesh} {axis boxes nodes : ℕ} {items₀ items : List ℕ} {n i : ℕ} (h : Halved m axis boxes nodes items₀ items n i) where
   abbrev half : ℕ
   half = length items₀ / 2
 
@@ -88,44 +95,44 @@ module _ (m : Mesh) (sides axis n i : ℕ) (boxes₀ : List Float) (nodes₀ ite
   right = tree_over m (sorted (drop half items))
 
   long : length items ≡ length items₀
-  long = length_permuted items items₀ split.same
+  long = length_permuted items items₀ h.split.same
 
-  all_items : Items m sides items
-  all_items = items_permuted items₀ room.given items split.same
+  all_items : Items m items
+  all_items = items_permuted m items₀ h.room.given items h.split.same
 
   tree : tree_over m (sorted items₀) ≡ inner_node (node_box m (sorted items₀)) left right
   tree =
-      tree_over_inner m (sorted items₀) (rw (length_sorted items₀) many)
-      ∙ rw (left_half m sides axis items₀ items room.given axis_is split, right_half m sides axis items₀ items room.given axis_is split)
+      tree_over_inner m (sorted items₀) (rw (length_sorted items₀) h.many)
+      ∙ rw (left_half m axis items₀ items h.small h.axis_is h.split, right_half m axis items₀ items h.small h.axis_is h.split)
 
   sizes : size (tree_over m (sorted items₀)) ≡ 1 + size left + size right
   sizes = rw tree (unfold size in refl)
 
   -- the room for the left half, in lists of the same lengths
-  pub left_room : Room m sides (length boxes₀) (length nodes₀) (take half items) (n + 1) i
+  pub left_room : Room m boxes nodes (take half items) (n + 1) i
   left_room =
       record {
-        given = items_take items all_items half;
-        some = omega (arith, length-take-le half items (omega (arith, long)));
-        for_boxes = omega (arith, room.for_boxes, sizes);
-        for_nodes = omega (arith, room.for_nodes, sizes);
-        few_nodes = omega (arith, room.few_nodes, sizes);
-        few_items = omega (arith, room.few_items, length-take-le half items (omega (arith, long)));
+        given = items_take m items all_items half;
+        some = omega (arith, h.many, length-take-le half items (omega (arith, long)));
+        for_boxes = omega (arith, h.room.for_boxes, sizes);
+        for_nodes = omega (arith, h.room.for_nodes, sizes);
+        few_nodes = omega (arith, h.room.few_nodes, sizes);
+        few_items = omega (arith, h.room.few_items, length-take-le half items (omega (arith, long)));
       }
 
   -- the room for the right half, from the node that is free then
-  pub right_room : (boxes nodes next : ℕ) → boxes ≡ length boxes₀ → nodes ≡ length nodes₀ → next ≡ n + 1 + size left → Room m sides boxes nodes (drop half items) next (i + half)
-  right_room boxes nodes next e f g =
+  pub right_room : (next : ℕ) → next ≡ n + 1 + size left → Room m boxes nodes (drop half items) next (i + half)
+  right_room next g =
       record {
-        given = items_drop items all_items half;
-        some = omega (arith, length-drop half items, long);
-        for_boxes = omega (arith, room.for_boxes, sizes, e, g);
-        for_nodes = omega (arith, room.for_nodes, sizes, f, g);
-        few_nodes = omega (arith, room.few_nodes, sizes, g);
-        few_items = omega (arith, room.few_items, length-drop half items, long);
+        given = items_drop m items all_items half;
+        some = omega (arith, h.many, length-drop half items, long);
+        for_boxes = omega (arith, h.room.for_boxes, sizes, g);
+        for_nodes = omega (arith, h.room.for_nodes, sizes, g);
+        few_nodes = omega (arith, h.room.few_nodes, sizes, g);
+        few_items = omega (arith, h.room.few_items, length-drop half items, long);
       }
 
-  module _ (boxes₁ boxes₂ : List Float) (nodes₁ nodes₂ items₁ items₂ : List ℕ) (first second : Subtree) (wrote : Writes m boxes₀ nodes₀ (take half items) (n + 1) i first boxes₁ nodes₁ items₁) (writes : Writes m boxes₁ nodes₁ (drop half items) first.end (i + half) second boxes₂ nodes₂ items₂) where
+  module _ {boxes₀ boxes₁ boxes₂ : List Float} {nodes₀ nodes₁ nodes₂ items₁ items₂ : List ℕ} {first second : Subtree} (wrote : Writes m boxes₀ nodes₀ (take half items) (n + 1) i first boxes₁ nodes₁ items₁) (writes : Writes m boxes₁ nodes₁ (drop half items) first.end (i + half) second boxes₂ nodes₂ items₂) where
     -- the written items of a half are that half in some order
     half_items : (part : List ℕ) → Permutation (item_list (tree_over m (sorted part))) part
     half_items part k = count_tree_over m (sorted part) k ∙ count_sorted k part
@@ -134,11 +141,11 @@ module _ (m : Mesh) (sides axis n i : ℕ) (boxes₀ : List Float) (nodes₀ ite
     written_same k =
         let left_same : count k items₁ ≡ count k (take half items) = rw wrote.items (half_items (take half items) k) in
         let right_same : count k items₂ ≡ count k (drop half items) = rw writes.items (half_items (drop half items) k) in
-        let whole : count k (take half items ++ drop half items) ≡ count k items₀ = rw (take-append-drop half items) (split.same k) in
+        let whole : count k (take half items ++ drop half items) ≡ count k items₀ = rw (take-append-drop half items) (h.split.same k) in
         omega (arith, count_append k items₁ items₂, left_same, right_same, count_append k (take half items) (drop half items), whole)
 
-    pub written_items : Items m sides (items₁ ++ items₂)
-    written_items = items_permuted items₀ room.given (items₁ ++ items₂) written_same
+    pub written_items : Items m (items₁ ++ items₂)
+    written_items = items_permuted m items₀ h.room.given (items₁ ++ items₂) written_same
 
     long_first : length items₁ ≡ half
     long_first = rw wrote.items (length_tree_over m (sorted (take half items)) ∙ (length_sorted (take half items) ∙ length-take-le half items (omega (arith, long))))
@@ -152,10 +159,10 @@ module _ (m : Mesh) (sides axis n i : ℕ) (boxes₀ : List Float) (nodes₀ ite
 
     -- and their places
     pub halves_places : (0 < half) × (half < length (items₁ ++ items₂))
-    halves_places = (omega arith, omega (arith, length_permuted (items₁ ++ items₂) items₀ written_same))
+    halves_places = (omega (arith, h.many), omega (arith, h.many, length_permuted (items₁ ++ items₂) items₀ written_same))
 
     pub small_node : first.end < 4294967296
-    small_node = omega (arith, room.few_nodes, sizes, wrote.end)
+    small_node = omega (arith, h.room.few_nodes, sizes, wrote.end)
 
     module _ (result : Subtree) (bounds : result.bounds ≡ node_box m (sorted (items₁ ++ items₂))) (end : result.end ≡ second.end) where
       own : result.bounds ≡ node_box m (sorted items₀)

@@ -7,7 +7,6 @@ pub mod leaf;
 
 ghost use Rattle.std.specs.Prelude.{◌≡◌, ◌+◌, ◌*◌, ◌≤◌, ◌<◌, length, set};
 ghost use Rattle.std.proofs.lemmas.List.Edits.{sets};
-ghost use Rattle.mesh.specs.Mesh as Mesh;
 ghost use Rattle.builder.specs.Builder as Builder;
 ghost use Rattle.subtree.specs.Subtree.{Room, Writes};
 
@@ -15,6 +14,7 @@ use crate::leaf::sort_items;
 use extent::{inner_box, leaf_box, split_of};
 use math::BoundingBox;
 use median::halve;
+use mesh::AcceptedMesh;
 
 // What was written of a subtree: the next free node is `end`, and the root's box is `bounds`.
 #[derive(Clone, Copy)]
@@ -28,12 +28,9 @@ fn put_box(boxes: &mut [f64], n: usize, b: BoundingBox)
     requires { 6 * n + 6 ≤ length boxes.old }
     ensures { boxes.new ≡ sets boxes.old (6 * n) (Builder.edges b) }
 {
-    boxes[6 * n] = b.min.x;
-    boxes[6 * n + 1] = b.min.y;
-    boxes[6 * n + 2] = b.min.z;
-    boxes[6 * n + 3] = b.max.x;
-    boxes[6 * n + 4] = b.max.y;
-    boxes[6 * n + 5] = b.max.z;
+    boxes[6 * n..6 * n + 6].copy_from_slice(&[
+        b.min.x, b.min.y, b.min.z, b.max.x, b.max.y, b.max.z,
+    ]);
 }
 
 // Writes the start and the count of node `n`.
@@ -47,89 +44,50 @@ fn put_node(nodes: &mut [u32], n: usize, start: usize, count: usize)
 
 // Writes a leaf as node `n`, its items sorted, which begin at place `i`.
 fn build_leaf(
-    coords: &[f64],
-    corners: &[u32],
-    ends: &[u32],
-    sides: usize,
+    mesh: &AcceptedMesh,
     boxes: &mut [f64],
     nodes: &mut [u32],
     items: &mut [u32],
     n: usize,
     i: usize,
 ) -> Subtree
-    requires { Room (Mesh.mesh coords.now corners.now ends.now) sides (length boxes.old) (length nodes.old) items.old n i × (length items.old ≤ 4) }
-    ensures { Writes (Mesh.mesh coords.now corners.now ends.now) boxes.old nodes.old items.old n i result boxes.new nodes.new items.new }
+    requires { Room mesh.now (length boxes.old) (length nodes.old) items.old n i × (length items.old ≤ 4) }
+    ensures { Writes mesh.now boxes.old nodes.old items.old n i result boxes.new nodes.new items.new }
 {
     sort_items(items);
-    let bounds = leaf_box(coords, corners, ends, sides, items);
+    let bounds = leaf_box(mesh, items);
     put_box(boxes, n, bounds);
     put_node(nodes, n, i, items.len());
-    Subtree {
-        end: n + 1,
-        bounds: bounds,
-    }
+    Subtree { end: n + 1, bounds }
 }
 
 // Writes the subtree over the items, from node `n` and item place `i` on. The box of an inner node is made
-// of those of its halves.
+// of those of its halves. `boxes` and `nodes` are no struct: each clause speaks of either list alone, before and after.
 pub fn build_node(
-    coords: &[f64],
-    corners: &[u32],
-    ends: &[u32],
-    sides: usize,
+    mesh: &AcceptedMesh,
     boxes: &mut [f64],
     nodes: &mut [u32],
     items: &mut [u32],
     n: usize,
     i: usize,
 ) -> Subtree
-    requires { Room (Mesh.mesh coords.now corners.now ends.now) sides (length boxes.old) (length nodes.old) items.old n i }
-    ensures { Writes (Mesh.mesh coords.now corners.now ends.now) boxes.old nodes.old items.old n i result boxes.new nodes.new items.new }
+    requires { Room mesh.now (length boxes.old) (length nodes.old) items.old n i }
+    ensures { Writes mesh.now boxes.old nodes.old items.old n i result boxes.new nodes.new items.new }
 {
-    let places = items.len();
-    if places <= 4 {
-        return build_leaf(coords, corners, ends, sides, boxes, nodes, items, n, i);
+    if items.len() <= 4 {
+        return build_leaf(mesh, boxes, nodes, items, n, i);
     }
-    let split = split_of(coords, corners, ends, sides, items);
-    halve(coords, corners, ends, sides, split.axis, split.pivot, items);
-    let half = places / 2;
-    let left = build_node(
-        coords,
-        corners,
-        ends,
-        sides,
-        boxes,
-        nodes,
-        &mut items[0..half],
-        n + 1,
-        i,
-    );
-    let next = left.end;
-    let right = build_node(
-        coords,
-        corners,
-        ends,
-        sides,
-        boxes,
-        nodes,
-        &mut items[half..places],
-        next,
-        i + half,
-    );
-    let bounds = inner_box(
-        coords,
-        corners,
-        ends,
-        sides,
-        items,
-        half,
-        left.bounds,
-        right.bounds,
-    );
+    let half = items.len() / 2;
+    let split = split_of(mesh, items);
+    halve(mesh, split.axis, split.pivot, items);
+    let (front, back) = items.split_at_mut(half);
+    let left = build_node(mesh, boxes, nodes, front, n + 1, i);
+    let right = build_node(mesh, boxes, nodes, back, left.end, i + half);
+    let bounds = inner_box(mesh, items, half, left.bounds, right.bounds);
     put_box(boxes, n, bounds);
-    put_node(nodes, n, next, 0);
+    put_node(nodes, n, left.end, 0);
     Subtree {
         end: right.end,
-        bounds: bounds,
+        bounds,
     }
 }
