@@ -8,9 +8,9 @@ use Rattle.keys.specs.Sorting.{sorted_by, sorted}
 use Rattle.math.specs.declared.Vec3.{Vec3}
 use Rattle.math.specs.declared.BoundingBox.{BoundingBox}
 use Rattle.math.specs.Vectors as Vectors
-use Rattle.math.specs.Boxes.{empty, join}
 use Rattle.mesh.specs.Boxes.{triangle_center}
-use Rattle.mesh.specs.Mesh.{Mesh, triangle_count, triangle_at, own_box, all_triangles}
+use Rattle.mesh.specs.Mesh.{Mesh, triangle_count, triangle_at, all_triangles}
+pub use Rattle.mesh.specs.Mesh.{join_all, node_box}
 use Rattle.tree.specs.Tree.{Tree}
 
 -- ---- the split
@@ -61,17 +61,7 @@ left_items m items = sorted (take (length items / 2) (by_center m items))
 unfoldable pub right_items : Mesh → List ℕ → List ℕ
 right_items m items = sorted (drop (length items / 2) (by_center m items))
 
--- ---- the box of a node
-
--- a box joined with the own boxes of triangles in their order
-unfoldable pub join_all : Mesh → BoundingBox → List ℕ → BoundingBox
-join_all m b [] = b
-join_all m b (t ∷ rest) = join_all m (join b (own_box m t)) rest
-
--- a node's box is joined from its triangles' boxes in ascending triangle number, starting with the first one's
-unfoldable pub node_box : Mesh → List ℕ → BoundingBox
-node_box m [] = empty
-node_box m (t ∷ rest) = join_all m (own_box m t) rest
+-- ---- the box of a node: it is joined from its triangles' boxes in ascending triangle number, starting with the first one's: `node_box` of Rattle.mesh.specs.Mesh
 
 -- ---- the tree
 

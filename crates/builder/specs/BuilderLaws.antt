@@ -19,10 +19,10 @@ use Rattle.keys.specs.Permutations.{all_append}
 use Rattle.math.specs.declared.BoundingBox.{BoundingBox}
 use Rattle.math.specs.Vectors as Vectors
 use Rattle.math.specs.Vectors.{component}
-use Rattle.mesh.specs.Mesh.{Mesh, own_box}
+use Rattle.mesh.specs.Mesh.{Mesh, own_box, join_all, node_box}
 use Rattle.math.specs.Boxes.{encloses, join, center}
 use Rattle.mesh.specs.Boxes.{triangle_center}
-use Rattle.builder.specs.Builder.{center_of, center_on, by_center, left_items, right_items, join_all, node_box, BoxTree, leaf_node, inner_node, build, tree_over, size, box_list, item_list, node_list}
+use Rattle.builder.specs.Builder.{center_of, center_on, by_center, left_items, right_items, BoxTree, leaf_node, inner_node, build, tree_over, size, box_list, item_list, node_list}
 use Rattle.tree.specs.JoinLaws.{NumberBox, encloses_join, encloses_self, join_numbers, own_box_numbers}
 
 -- ---- the halves

@@ -17,9 +17,9 @@ use Rattle.math.specs.Vectors as Vectors
 use Rattle.math.specs.Vectors.{component}
 use Rattle.math.specs.Boxes.{box, empty, include, size, join}
 use Rattle.mesh.specs.Boxes.{vertex, triangle_box}
-use Rattle.mesh.specs.Mesh.{Mesh, own_box}
+use Rattle.mesh.specs.Mesh.{Mesh, own_box, join_all, node_box}
 use Rattle.builder.specs.BuilderLaws.{each, center_fits}
-use Rattle.builder.specs.Builder.{center_of, center_on, lowest, highest, spread, wider, split_axis, join_all, node_box}
+use Rattle.builder.specs.Builder.{center_of, center_on, lowest, highest, spread, wider, split_axis}
 use Rattle.tree.specs.JoinLaws.{NumberBox, own_box_numbers}
 use Rattle.extent.specs.Extent.{end_with, with_center, with_centers, wider_axis, widest_axis, edge, own_edge, pick, settled_edge, settled_box, joined_edge, joined_end, joined_box}
 use Rattle.extent.specs.ExtentZeros.{sub_same}

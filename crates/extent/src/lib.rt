@@ -128,18 +128,6 @@ pub fn split_of(mesh: &AcceptedMesh, items: &[u32]) -> Split
     }
 }
 
-// The box of a leaf, whose items are sorted: their own boxes joined in their order.
-pub fn leaf_box(mesh: &AcceptedMesh, items: &[u32]) -> BoundingBox
-    requires { Items.Items mesh.now items.now × (0 < length items.now) }
-    ensures { result ≡ Builder.node_box mesh.now items.now }
-{
-    let mut b = mesh.own_box(items[0]);
-    for t in &items[1..] {
-        b = b.join(mesh.own_box(*t));
-    }
-    b
-}
-
 // The lowest-numbered item so far whose edge is zero, or item `t` if its edge `e` is zero and it does not come later.
 #[tactic(auto, unfolding(crate::specs::Extent::earlier))]
 fn earlier(found: Option<u32>, t: u32, e: f64) -> Option<u32>

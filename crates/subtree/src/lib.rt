@@ -11,7 +11,7 @@ ghost use Rattle.builder.specs.Builder as Builder;
 ghost use Rattle.subtree.specs.Subtree.{Room, Writes};
 
 use crate::leaf::sort_items;
-use extent::{inner_box, leaf_box, split_of};
+use extent::{inner_box, split_of};
 use math::BoundingBox;
 use median::halve;
 use mesh::AcceptedMesh;
@@ -55,7 +55,7 @@ fn build_leaf(
     ensures { Writes mesh.now boxes.old nodes.old items.old n i result boxes.new nodes.new items.new }
 {
     sort_items(items);
-    let bounds = leaf_box(mesh, items);
+    let bounds = mesh.joined_boxes(items);
     put_box(boxes, n, bounds);
     put_node(nodes, n, i, items.len());
     Subtree { end: n + 1, bounds }

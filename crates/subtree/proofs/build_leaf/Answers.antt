@@ -7,11 +7,11 @@ use Rattle.builder.specs.Builder.{node_box}
 use Rattle.subtree.specs.SubtreeLaws.{room_one, leaf_writes}
 use Rattle.subtree.proofs.build_leaf.Goals as goal
 
-pub leaf_box-bounds-requires : goal.leaf_box-bounds-requires
-leaf_box-bounds-requires c =
+pub joined_boxes-bounds-requires : goal.joined_boxes-bounds-requires
+joined_boxes-bounds-requires c =
     let items = c.args.items.now in
     let room = c.requires.0 in
-    rw c.sort_items.ensures (items_permuted c.args.mesh.now items room.given (sorted items) (sorted_permutation items), rw (length_sorted items) room.some)
+    rw c.sort_items.ensures (record { items = items_permuted c.args.mesh.now items room.given (sorted items) (sorted_permutation items); some = rw (length_sorted items) room.some })
 
 pub put_box-requires : goal.put_box-requires
 put_box-requires c = (room_one c.requires.0).0
@@ -25,5 +25,5 @@ pub returns : goal.returns
 returns c =
     let a = c.args in
     let items = c.sort_items.ensures in
-    let bounds = c.leaf_box-bounds.ensures ∙ ap (node_box a.mesh.now) items in
+    let bounds = c.joined_boxes-bounds.ensures ∙ ap (node_box a.mesh.now) items in
     rw (c.put_box.ensures, c.put_node.ensures, c.sort_items.auto.items, items) (leaf_writes a.mesh.now a.boxes.now a.nodes.now a.items.now a.n a.i _ c.requires.1 refl bounds)
