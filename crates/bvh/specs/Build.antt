@@ -1,14 +1,11 @@
--- The builder (document 01): questions 1 to 6, what is written into the lent lists, and what the tree over all triangles asks for. Definitions only.
-use Rattle.std.specs.Prelude.{ℕ, ◌*◌, ◌≤◌, ◌<◌, ◌≡◌, Bool, ◌&&◌, List, leb, Float, length}
-use Rattle.std.specs.Prelude.{Ok, Err}
+-- The builder (document 01): questions 1 to 6 and what is written into the lent lists. Definitions only.
+use Rattle.std.specs.Prelude.{ℕ, ◌*◌, ◌≡◌, Bool, ◌&&◌, List, leb, Float, length, Result}
 use Rattle.lent.specs.Over.{over}
+use Rattle.refusal.specs.declared.Refusal.{Refusal}
 use Rattle.refusal.specs.declared.Refusal.TheVariants as Refusals
-use Rattle.refusal.specs.Verdicts.{Passed, Verdict, ask, then, written}
+use Rattle.refusal.specs.Verdicts.{Verdict, ask, then, answered, written}
 use Rattle.mesh_questions.specs.Questions.{ask_mesh}
-use Rattle.mesh_questions.specs.Accepted.{Accepted}
 use Rattle.mesh.specs.Mesh.{Mesh, triangle_count}
-use Rattle.bvh.specs.declared.build.Built.{Built}
-use Rattle.bvh.specs.declared.build.Built.TheVariants.{Refused, Nodes}
 use Rattle.tree.specs.Tree.{node_count}
 use Rattle.builder.specs.Builder.{layout}
 
@@ -27,23 +24,12 @@ abbrev pub verdict : Mesh → List Float → List ℕ → List ℕ → Verdict
 verdict m boxes nodes items = ask_build m (length boxes) (length nodes) (length items)
 
 -- the answer: the number of nodes of the builder rule's tree unless a question refuses
-unfoldable pub build_answer : Verdict → Mesh → Built
-build_answer Passed m = Nodes (node_count (layout m))
-build_answer (Err refusal) m = Err refusal
+abbrev pub build_answer : Verdict → Mesh → Result ℕ Refusal
+build_answer verdict m = answered verdict (node_count (layout m))
 
 -- what `build` promises: its answer, and of each buffer, lent as ₀ and left as ₁, the list of the builder rule's tree in front and the rest as it was
-pub record Builds (m : Mesh) (boxes₀ : List Float) (nodes₀ items₀ : List ℕ) (result : Built) (boxes₁ : List Float) (nodes₁ items₁ : List ℕ) : Type 0 where
+pub record Builds (m : Mesh) (boxes₀ : List Float) (nodes₀ items₀ : List ℕ) (result : Result ℕ Refusal) (boxes₁ : List Float) (nodes₁ items₁ : List ℕ) : Type 0 where
   pub answer : result ≡ build_answer (verdict m boxes₀ nodes₀ items₀) m
   pub boxes : boxes₁ ≡ over (written (verdict m boxes₀ nodes₀ items₀) (layout m).boxes) boxes₀
   pub nodes : nodes₁ ≡ over (written (verdict m boxes₀ nodes₀ items₀) (layout m).nodes) nodes₀
   pub items : items₁ ≡ over (written (verdict m boxes₀ nodes₀ items₀) (layout m).items) items₀
-
--- ---- the whole tree
-
--- an accepted mesh has triangles, an item place for each, and room for six floats and two node numbers for each
-pub record Whole (m : Mesh) (boxes nodes items : ℕ) : Type 0 where
-  pub accepted : Accepted m.coords m.corners m.ends
-  pub all : items ≡ triangle_count m
-  pub some : 0 < triangle_count m
-  pub for_boxes : 6 * triangle_count m ≤ boxes
-  pub for_nodes : 2 * triangle_count m ≤ nodes

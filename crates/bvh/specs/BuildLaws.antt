@@ -11,12 +11,10 @@ use Rattle.keys.specs.SortingTheorems.{length_sorted}
 use Rattle.lent.specs.Over.{over, over_nothing, over_stores}
 use Rattle.refusal.specs.declared.Refusal.{Refusal}
 use Rattle.refusal.specs.declared.Refusal.TheVariants as Refusals
-use Rattle.refusal.specs.Verdicts.{Passed, Verdict, ask, written, ask_passed, then_passed, both}
+use Rattle.refusal.specs.Verdicts.{Passed, ask, written, ask_passed, then_passed, both}
 use Rattle.mesh_questions.specs.Questions.{ask_mesh}
 use Rattle.mesh_questions.specs.Accepted.{Accepted, accepted}
-use Rattle.mesh.specs.Triangles as Triangles
 use Rattle.mesh.specs.Mesh.{Mesh, triangle_count, numbers}
-use Rattle.tree.specs.Tree.{node_count}
 use Rattle.tree.specs.TreeTest.{triangle_count_accepted}
 use Rattle.tree.specs.Numbers.{length_numbers, get_d_numbers}
 use Rattle.builder.specs.Builder.{BoxTree, tree_over, builder_tree, size, box_list, node_list, item_list, lists, layout}
@@ -25,8 +23,7 @@ use Rattle.builder.specs.BuilderSize.{size_le, node_count_some, node_count_none}
 use Rattle.subtree.specs.declared.Subtree.{Subtree}
 use Rattle.subtree.specs.Subtree.{Room, Writes}
 use Rattle.subtree.specs.Leaf.{ordered_sorted}
-use Rattle.bvh.specs.declared.build.Built.TheVariants.{Refused, Nodes}
-use Rattle.bvh.specs.Build.{room, ask_build, verdict, build_answer, Builds, Whole}
+use Rattle.bvh.specs.Build.{room, ask_build, verdict, Builds}
 
 -- ---- the whole tree
 
@@ -41,29 +38,29 @@ sorted_numbers n = sym (ordered_sorted (numbers 0 n) (numbers 0 n) (λ k. refl) 
     ascend : (a b : ℕ) → a < b → b < n → get_or (numbers 0 n) a 0 ≤ get_or (numbers 0 n) b 0
     ascend a b less in_List = rw (get_d_numbers 0 n a (omega arith), get_d_numbers 0 n b in_List) (omega arith)
 
-module _ (m : Mesh) (boxes nodes items : ℕ) (whole : Whole m boxes nodes items) where
-  size_all : size (tree_over m (sorted (numbers 0 items))) ≤ triangle_count m
-  size_all =
-      let long = length_sorted (numbers 0 items) in
-      let count = length_numbers 0 items in
-      omega (arith, size_le m (sorted (numbers 0 items)) (omega (arith, whole.all, whole.some)), whole.all)
+module _ (m : Mesh) (accepted : Accepted m.coords m.corners m.ends) (some : 0 < triangle_count m) where
+  abbrev all : List ℕ
+  all = numbers 0 (triangle_count m)
 
-  -- there is room for it
-  pub whole_room : Room m (Triangles.sides m.ends) boxes nodes (numbers 0 items) 0 0
-  whole_room =
-      let few = few_triangles whole.accepted in
-      let count = length_numbers 0 items in
+  size_all : size (tree_over m (sorted all)) ≤ triangle_count m
+  size_all = omega (arith, size_le m (sorted all) (omega (arith, some, length_sorted all, length_numbers 0 (triangle_count m))), length_sorted all, length_numbers 0 (triangle_count m))
+
+  -- there is room for it in lists of six floats and two node numbers a triangle
+  pub whole_room : (boxes nodes : ℕ) → 6 * triangle_count m ≤ boxes → 2 * triangle_count m ≤ nodes → Room m boxes nodes all 0 0
+  whole_room boxes nodes for_boxes for_nodes =
+      let few = few_triangles accepted in
+      let count = length_numbers 0 (triangle_count m) in
       record {
-        given = record { accepted = whole.accepted; sides = refl; below = λ j h. below j (omega arith) };
-        some = omega (arith, whole.all, whole.some);
-        for_boxes = omega (arith, size_all, whole.for_boxes);
-        for_nodes = omega (arith, size_all, whole.for_nodes);
+        given = λ j h. below j (omega arith);
+        some = omega (arith, some);
+        for_boxes = omega (arith, size_all, for_boxes);
+        for_nodes = omega (arith, size_all, for_nodes);
         few_nodes = omega (arith, size_all);
-        few_items = omega (arith, whole.all);
+        few_items = omega arith;
       }
     where
-      below : (j : ℕ) → j < items → get_or (numbers 0 items) j 0 < length m.corners - 2 * length m.ends
-      below j less = rw (get_d_numbers 0 items j less) (omega (arith, triangle_count_accepted m whole.accepted, whole.all))
+      below : (j : ℕ) → j < triangle_count m → get_or all j 0 < length m.corners - 2 * length m.ends
+      below j less = rw (get_d_numbers 0 (triangle_count m) j less) (omega (arith, triangle_count_accepted m accepted))
 
 -- ---- the public entry
 
@@ -74,7 +71,7 @@ items_written tree n items long = rw long
 module _ (m : Mesh) (boxes₀ : List Float) (nodes₀ items₀ : List ℕ) where
   -- a refused call
   pub builds_refused : (refusal : Refusal) → verdict m boxes₀ nodes₀ items₀ ≡ Err refusal → Builds m boxes₀ nodes₀ items₀ (Err refusal) boxes₀ nodes₀ items₀
-  unfolding written build_answer
+  unfolding written
   builds_refused refusal e =
       record { answer = rw e; boxes = rw e (sym (over_nothing boxes₀)); nodes = rw e (sym (over_nothing nodes₀)); items = rw e (sym (over_nothing items₀)) }
 
@@ -97,8 +94,8 @@ module _ (m : Mesh) (boxes₀ : List Float) (nodes₀ items₀ : List ℕ) where
         (leb-true _ _ first.0, leb-true _ _ first.1, leb-true _ _ parts.1)
 
     -- no triangles: no nodes
-    pub builds_none : triangle_count m ≡ 0 → Builds m boxes₀ nodes₀ items₀ (Nodes 0) boxes₀ nodes₀ items₀
-    unfolding written build_answer layout
+    pub builds_none : triangle_count m ≡ 0 → Builds m boxes₀ nodes₀ items₀ (Ok 0) boxes₀ nodes₀ items₀
+    unfolding written layout
     builds_none none =
         record {
           answer = rw (passed, node_count_none m none);
@@ -108,9 +105,9 @@ module _ (m : Mesh) (boxes₀ : List Float) (nodes₀ items₀ : List ℕ) where
         }
 
     module _ (some : 0 < triangle_count m) where
-      -- the room for all triangles, and an item place for each
-      pub builds_room : Whole m (length boxes₀) (length nodes₀) (triangle_count m)
-      builds_room = record { accepted = accepted_mesh; all = refl; some = some; for_boxes = rooms.0; for_nodes = rooms.1 }
+      -- the room for all triangles
+      pub builds_room : Room m (length boxes₀) (length nodes₀) (numbers 0 (triangle_count m)) 0 0
+      builds_room = whole_room m accepted_mesh some (length boxes₀) (length nodes₀) rooms.0 rooms.1
 
       layout_lists : layout m ≡ lists (tree_over m (numbers 0 (triangle_count m)))
       unfolding layout builder_tree
@@ -118,34 +115,20 @@ module _ (m : Mesh) (boxes₀ : List Float) (nodes₀ items₀ : List ℕ) where
 
       -- the tree that was written
       pub builds_all : (result : Subtree) (boxes₁ : List Float) (nodes₁ items₁ : List ℕ) → Writes m boxes₀ nodes₀ (numbers 0 (triangle_count m)) 0 0 result boxes₁ nodes₁ items₁
-          → Builds m boxes₀ nodes₀ items₀ (Nodes result.end) boxes₁ nodes₁ (items₁ ++ drop (triangle_count m) items₀)
-      unfolding written build_answer lists
+          → Builds m boxes₀ nodes₀ items₀ (Ok result.end) boxes₁ nodes₁ (items₁ ++ drop (triangle_count m) items₀)
+      unfolding written lists
       builds_all result boxes₁ nodes₁ items₁ w =
           let all = numbers 0 (triangle_count m) in
           let same = sorted_numbers (triangle_count m) in
           let tree = tree_over m all in
-          let fits : size tree ≤ triangle_count m = rw same at (size_all m (length boxes₀) (length nodes₀) (triangle_count m) builds_room) in
+          let fits : size tree ≤ triangle_count m = rw same at (size_all m accepted_mesh some) in
           let long : length (item_list tree) ≡ triangle_count m = length_tree_over m all ∙ length_numbers 0 (triangle_count m) in
           let boxes : sets boxes₀ 0 (box_list tree) ≡ over (box_list tree) boxes₀ = sym (over_stores 0 boxes₀ (box_list tree) (omega (arith, length_box_list tree, rooms.0))) in
           let nodes : sets nodes₀ 0 (node_list 0 0 tree) ≡ over (node_list 0 0 tree) nodes₀ = sym (over_stores 0 nodes₀ (node_list 0 0 tree) (omega (arith, length_node_list 0 0 tree, rooms.1))) in
           let whole : item_list tree ++ drop (triangle_count m) items₀ ≡ over (item_list tree) items₀ = items_written tree (triangle_count m) items₀ long in
           record {
-            answer = rw (passed, w.end, same, node_count_some m some) (ap Nodes (omega arith));
+            answer = rw (passed, w.end, same, node_count_some m some) (ap Ok (omega arith));
             boxes = rw (passed, layout_lists) (w.boxes ∙ rw same boxes);
             nodes = rw (passed, layout_lists) (w.nodes ∙ rw same nodes);
             items = rw (passed, layout_lists, w.items, same) whole;
           }
-
--- ---- what an answer says
-
--- an answer of nodes: the questions passed, and these are the nodes
-pub answer_nodes : (v : Verdict) (m : Mesh) (count : ℕ) → Nodes count ≡ build_answer v m → (v ≡ Passed) × (count ≡ node_count (layout m))
-unfolding build_answer
-answer_nodes Passed m count e = (refl, cc)
-answer_nodes (Err refusal) m count e = (cc, cc)
-
--- a refusal: it is the verdict
-pub answer_refused : (v : Verdict) (m : Mesh) (refusal : Refusal) → Err refusal ≡ build_answer v m → v ≡ Err refusal
-unfolding build_answer
-answer_refused Passed m refusal e = cc
-answer_refused (Err other) m refusal e = cc

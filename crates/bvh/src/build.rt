@@ -1,104 +1,61 @@
 // The builder: document 01's questions 1 to 6, and then the tree of the builder rule (csx's bvh.rs). The
 // definitions are in crate builder, specs/Builder.antt (the rule), and in specs/Build.antt (the questions and the promise).
 ghost use Rattle.std.specs.Prelude.{◌≡◌, ◌≤◌, length};
-ghost use Rattle.mesh.specs.Mesh as Mesh;
-ghost use Rattle.subtree.specs.Subtree.{Writes};
+ghost use Rattle.refusal.specs.Verdicts.{answered};
+ghost use Rattle.mesh.specs.Mesh as Meshes;
 ghost use Rattle.bvh.specs.Build as Build;
 
-use mesh_questions::Asked;
-use refusal::{Refusal, Verdict};
-use subtree::{Subtree, build_node};
-
-// What the builder answers: a refusal, or how many nodes it wrote.
-#[derive(Clone, Copy)]
-pub enum Built {
-    Refused(Refusal),
-    Nodes(usize),
-}
+use mesh::AcceptedMesh;
+use mesh_questions::Mesh;
+use refusal::Refusal;
+use subtree::build_node;
 
 // Writes the numbers from 0 on.
 fn number_items(items: &mut [u32])
     requires { length items.old ≤ 262144 }
-    ensures { items.new ≡ Mesh.numbers 0 (length items.old) }
+    ensures { items.new ≡ Meshes.numbers 0 (length items.old) }
 {
-    let mut k = 0;
-    while k < items.len() {
-        items[k] = k as u32;
-        k += 1;
+    for (k, item) in items.iter_mut().enumerate() {
+        *item = k as u32;
     }
 }
 
-// Writes the tree over all triangles of a mesh, for each of which there is an item place.
-fn build_all(
-    coords: &[f64],
-    corners: &[u32],
-    ends: &[u32],
-    boxes: &mut [f64],
-    nodes: &mut [u32],
-    items: &mut [u32],
-) -> Subtree
-    requires { Build.Whole (Mesh.mesh coords.now corners.now ends.now) (length boxes.old) (length nodes.old) (length items.old) }
-    ensures { Writes (Mesh.mesh coords.now corners.now ends.now) boxes.old nodes.old (Mesh.numbers 0 (length items.old)) 0 0 result boxes.new nodes.new items.new }
-{
-    number_items(items);
-    let sides = mesh::triangles::sides(ends);
-    build_node(coords, corners, ends, sides, boxes, nodes, items, 0, 0)
-}
-
-// Questions 1 to 6: a mesh, and lists of these lengths for its tree.
-pub fn ask_build(
-    coords: &[f64],
-    corners: &[u32],
-    ends: &[u32],
+// Questions 1 to 6: a mesh, and lists of these lengths for its tree. The accepted mesh, or the refusal.
+#[tactic(auto, unfolding(crate::specs::Build::ask_build))]
+pub fn ask_build<'a>(
+    mesh: &Mesh<'a>,
     boxes: usize,
     nodes: usize,
     items: usize,
-) -> Verdict
-    ensures { result ≡ Build.ask_build (Mesh.mesh coords.now corners.now ends.now) boxes nodes items }
+) -> Result<AcceptedMesh<'a>, Refusal>
+    ensures { result ≡ answered (Build.ask_build mesh.now boxes nodes items) mesh.now }
 {
-    let asked = mesh_questions::ask_mesh(coords, corners, ends);
-    match asked {
-        Asked::Refused(refusal) => Verdict::Refused(refusal),
-        Asked::Accepted(_) => {
-            let triangles = corners.len() - 2 * ends.len();
-            if (6 * triangles <= boxes) & (2 * triangles <= nodes) & (triangles <= items) {
-                Verdict::Passed
-            } else {
-                Verdict::Refused(Refusal::Room)
-            }
-        }
+    let mesh = AcceptedMesh::accept(mesh)?;
+    let triangles = mesh.triangle_count();
+    if (6 * triangles <= boxes) & (2 * triangles <= nodes) & (triangles <= items) {
+        Ok(mesh)
+    } else {
+        Err(Refusal::Room)
     }
 }
 
-// Builds the tree of a mesh: its boxes go to `boxes`, the start and count of each node to `nodes` and the
-// triangle numbers to `items`.
+// Builds the tree of a mesh, and says how many nodes it has: its boxes go to `boxes`, the start and count of each node to
+// `nodes` and the triangle numbers to `items`.
 pub fn build(
-    coords: &[f64],
-    corners: &[u32],
-    ends: &[u32],
+    mesh: &Mesh,
     boxes: &mut [f64],
     nodes: &mut [u32],
     items: &mut [u32],
-) -> Built
-    ensures { Build.Builds (Mesh.mesh coords.now corners.now ends.now) boxes.old nodes.old items.old result boxes.new nodes.new items.new }
+) -> Result<usize, Refusal>
+    ensures { Build.Builds mesh.now boxes.old nodes.old items.old result boxes.new nodes.new items.new }
 {
-    let verdict = ask_build(coords, corners, ends, boxes.len(), nodes.len(), items.len());
-    match verdict {
-        Verdict::Refused(refusal) => Built::Refused(refusal),
-        Verdict::Passed => {
-            let triangles = corners.len() - 2 * ends.len();
-            if triangles == 0 {
-                return Built::Nodes(0);
-            }
-            let tree = build_all(
-                coords,
-                corners,
-                ends,
-                boxes,
-                nodes,
-                &mut items[0..triangles],
-            );
-            Built::Nodes(tree.end)
-        }
+    let mesh = ask_build(mesh, boxes.len(), nodes.len(), items.len())?;
+    let triangles = mesh.triangle_count();
+    if triangles == 0 {
+        return Ok(0);
     }
+    let items = &mut items[..triangles];
+    number_items(items);
+    let tree = build_node(&mesh, boxes, nodes, items, 0, 0);
+    Ok(tree.end)
 }
