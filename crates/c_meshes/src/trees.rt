@@ -3,7 +3,6 @@ ghost use Rattle.mesh.specs.Mesh as Mesh;
 ghost use Rattle.tree.specs.Tree as Tree;
 ghost use Rattle.c_meshes.specs.Trees as Trees;
 
-use bvh::build::Built;
 use refusal::Verdict;
 
 // Builds the tree of a mesh, and returns how many nodes it has.
@@ -17,10 +16,14 @@ pub fn csx_build_tree(
 ) -> u64
     ensures { Trees.Builds (Mesh.mesh coords.now corners.now ends.now) boxes.old nodes.old items.old result boxes.new nodes.new items.new }
 {
-    let built = bvh::build::build(coords, corners, ends, boxes, nodes, items);
-    match built {
-        Built::Refused(refusal) => refusal.code(),
-        Built::Nodes(count) => count as u64,
+    let mesh = mesh_questions::Mesh {
+        coords,
+        corners,
+        ends,
+    };
+    match bvh::build::build(&mesh, boxes, nodes, items) {
+        Ok(count) => count as u64,
+        Err(refusal) => refusal.code(),
     }
 }
 
