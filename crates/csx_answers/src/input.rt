@@ -1,34 +1,40 @@
 // Words of standard input: 16 hexadecimal digits, in small letters, and one byte more.
-ghost use Rattle.std.specs.Prelude.{◌≤◌, length};
+ghost use Rattle.std.specs.Prelude.{◌≤◌, ◌<◌, length, IfSome};
 
 use std::io::Read;
 
-// Stands for what is no number. It is the pattern of a NaN, which no record has.
-pub const NONE: u64 = 0xFFF8_0000_0000_0001;
+// Where a number should stand, none does, or none that can stand there.
+#[derive(Clone, Copy)]
+pub struct Unreadable;
 
-// The value of a digit, and 16 for any other byte.
-fn digit(b: u8) -> u64 {
+// A NaN's pattern that stands for no number. No record has it.
+const NO_NUMBER: u64 = 0xFFF8_0000_0000_0001;
+
+// The value of a digit.
+fn digit(b: u8) -> Option<u64>
+    ensures { IfSome result (λ d. d < 16) }
+{
     match b {
-        b'0'..=b'9' => (b - b'0') as u64,
-        b'a'..=b'f' => (b - b'a' + 10) as u64,
-        _ => 16,
+        b'0'..=b'9' => Some(u64::from(b - b'0')),
+        b'a'..=b'f' => Some(u64::from(b - b'a' + 10)),
+        _ => None,
     }
 }
 
-// The number that the first 16 bytes write, or NONE. Nothing is lost by the remainder: it only shows that no digit is.
-pub fn number(text: &[u8; 17]) -> u64 {
+// The number that the first 16 bytes write. Nothing is lost by the remainder: it only shows that no digit is.
+pub fn number(text: &[u8; 17]) -> Result<u64, Unreadable> {
     let mut n: u64 = 0;
     for b in &text[..16] {
-        let d = digit(*b);
-        if 15 < d {
-            return NONE;
-        }
-        n = n % 0x1000_0000_0000_0000 * 16 + d;
+        n = n % 0x1000_0000_0000_0000 * 16 + digit(*b).ok_or(Unreadable)?;
     }
-    n
+    if n == NO_NUMBER {
+        return Err(Unreadable);
+    }
+    Ok(n)
 }
 
-// Reads until the buffer is full, the input ends or a read fails. Returns how many bytes were read.
+// Reads until the buffer is full, the input ends or a read fails. Returns how many bytes were read. How many turns that
+// takes is not known before, since a read may give fewer bytes than it is asked for.
 pub fn read_full(input: &mut impl Read, buffer: &mut [u8]) -> usize
     ensures { result ≤ length buffer.new }
 {
@@ -42,11 +48,11 @@ pub fn read_full(input: &mut impl Read, buffer: &mut [u8]) -> usize
     done
 }
 
-// The next word of the input, or NONE.
-pub fn read_word(input: &mut impl Read) -> u64 {
+// The next word of the input.
+pub fn read_word(input: &mut impl Read) -> Result<u64, Unreadable> {
     let mut text = [0u8; 17];
     if read_full(input, &mut text) < 17 {
-        return NONE;
+        return Err(Unreadable);
     }
     number(&text)
 }
