@@ -1,6 +1,6 @@
 -- Every number that `csx_point_list` returns can be read back (`Rattle.refusal.specs.Places`): the place of each refusal is below 1,000,000,
 -- and a listing has at most 5,130 bytes.
-use Rattle.std.specs.Prelude.{ℕ, ◌+◌, ◌≤◌, ◌≡◌, refl, Bool, true, false, cond, List, [], ◌∷◌, leb, length}
+use Rattle.std.specs.Prelude.{ℕ, ◌+◌, ◌≤◌, ◌≡◌, refl, Bool, true, false, cond, Option, Result, Ok, Err, List, [], ◌∷◌, leb, length}
 use Rattle.std.proofs.Common.{arith, ap}
 use Rattle.std.specs.Prelude.{Ok, Err}
 use Rattle.refusal.specs.declared.Refusal.TheVariants as Refusals
@@ -11,8 +11,6 @@ use Rattle.polyhedron.specs.Lists.{answers_to}
 use Rattle.polyhedron.specs.ListLaws.{length_answers_to}
 use Rattle.text.specs.declared.Kind.{Kind}
 use Rattle.text.specs.declared.Counts.{Counts}
-use Rattle.text.specs.declared.Judged.{Judged}
-use Rattle.text.specs.declared.Judged.TheVariants.{BadLine, Good}
 use Rattle.text.specs.Lines.{kind_of, none, lines_in, may_follow, counted, lines, judge}
 use Rattle.text.specs.LineLaws.{counted_next}
 use Rattle.listing.specs.Listing.{listing_length}
@@ -21,13 +19,13 @@ use Rattle.column.specs.Column.{mesh_of, points_of, ask_column, column_verdict, 
 use Rattle.column.specs.CallLaws.{has, length_points_of}
 
 -- the line that a judged text names, 0 if all are good
-abbrev line_in : Judged → ℕ
-line_in (BadLine n) = n
-line_in (Good counts) = 0
+abbrev line_in : Result Counts ℕ → ℕ
+line_in (Err n) = n
+line_in (Ok counts) = 0
 
 -- the first bad line is one of 1,025
-bad_next : (first n : ℕ) (done : Counts) (kind : Kind) (rest : Judged) (follows : Bool) → may_follow done kind ≡ follows → cond follows rest (BadLine (first + lines_in done)) ≡ BadLine n → lines_in done ≤ 1024
-    → (rest ≡ BadLine n → lines_in (counted done kind) ≤ 1024 → n ≤ first + 1024) → n ≤ first + 1024
+bad_next : (first n : ℕ) (done : Counts) (kind : Option Kind) (rest : Result Counts ℕ) (follows : Bool) → may_follow done kind ≡ follows → cond follows rest (Err (first + lines_in done)) ≡ Err n → lines_in done ≤ 1024
+    → (rest ≡ Err n → lines_in (counted done kind) ≤ 1024 → n ≤ first + 1024) → n ≤ first + 1024
 bad_next first n done kind rest true f e h ih =
     let next = counted_next done kind f in
     ih e (omega (arith, next.0, next.1))
@@ -35,7 +33,7 @@ bad_next first n done kind rest false f e h ih =
     let here : first + lines_in done ≡ n = ap line_in e in
     omega (arith, here, h)
 
-bad_line : (first : ℕ) (done : Counts) (l : List (List ℕ)) (n : ℕ) → judge first done l ≡ BadLine n → lines_in done ≤ 1024 → n ≤ first + 1024
+bad_line : (first : ℕ) (done : Counts) (l : List (List ℕ)) (n : ℕ) → judge first done l ≡ Err n → lines_in done ≤ 1024 → n ≤ first + 1024
 unfolding judge
 bad_line first done [] n e h =
     let none_bad : 0 ≡ n = ap line_in e in
@@ -43,10 +41,10 @@ bad_line first done [] n e h =
 bad_line first done (line ∷ l) n e h =
     bad_next first n done (kind_of line) _ (may_follow done (kind_of line)) refl e h (bad_line first (counted done (kind_of line)) l n)
 
-below_judged : (j : Judged) (l : List (List ℕ)) (room : ℕ) → ((n : ℕ) → j ≡ BadLine n → n ≤ 1025) → Below (column_verdict j l room)
+below_judged : (j : Result Counts ℕ) (l : List (List ℕ)) (room : ℕ) → ((n : ℕ) → j ≡ Err n → n ≤ 1025) → Below (column_verdict j l room)
 unfolding column_verdict ask_column
-below_judged (BadLine n) l room bad = below_refused (Refusals.Line n) (omega (arith, bad n refl))
-below_judged (Good counts) l room bad = below_room (mesh_of counts l) (leb (listing_length counts.points) room)
+below_judged (Err n) l room bad = below_refused (Refusals.Line n) (omega (arith, bad n refl))
+below_judged (Ok counts) l room bad = below_room (mesh_of counts l) (leb (listing_length counts.points) room)
 
 pub below_column : (text : List ℕ) (room : ℕ) → Below (verdict text room)
 unfolding verdict judged none lines_in
@@ -58,10 +56,10 @@ unfolding written
 written_length Passed l n h = h
 written_length (Err refusal) l n h = omega arith
 
-listing_length_lem : (text : List ℕ) (j : Judged) → judged text ≡ j → length (column_listing j (lines text)) ≤ 5130
+listing_length_lem : (text : List ℕ) (j : Result Counts ℕ) → judged text ≡ j → length (column_listing j (lines text)) ≤ 5130
 unfolding column_listing listing_length
-listing_length_lem text (BadLine n) e = omega arith
-listing_length_lem text (Good counts) e =
+listing_length_lem text (Err n) e = omega arith
+listing_length_lem text (Ok counts) e =
     let answers = answers_to (mesh_of counts (lines text)) (points_of counts (lines text)) in
     let count = length_answers_to (mesh_of counts (lines text)) (points_of counts (lines text)) in
     omega (arith, length_listing answers, count, length_points_of text counts e, (has text counts e).limits.points)

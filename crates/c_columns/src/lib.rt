@@ -3,14 +3,12 @@
 
 ghost use Rattle.c_columns.specs.Columns as Columns;
 
-use column::Listed;
-
 // Column text in, a listing out. Returns how many bytes the listing has.
 pub fn csx_point_list(text: &[u8], listing: &mut [u8]) -> u64
     ensures { Columns.Lists text.now listing.old result listing.new }
 {
     match column::point_list(text, listing) {
-        Listed::Refused(refusal) => refusal.code(),
-        Listed::Bytes(bytes) => bytes as u64,
+        Ok(bytes) => bytes as u64,
+        Err(refusal) => refusal.code(),
     }
 }

@@ -1,3 +1,2 @@
 -- The definitions of the program `point_list`.
-pub mod Input
 pub mod Printed

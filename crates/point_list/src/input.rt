@@ -1,27 +1,20 @@
-// Standard input, read into a buffer. The definitions are in specs/Input.antt.
-ghost use Rattle.std.specs.Prelude.{length};
-ghost use Rattle.point_list.specs.Input as Inputs;
+// Standard input, read into a buffer.
+ghost use Rattle.std.specs.Prelude.{◌≤◌, IfOk, length};
 
+use std::io;
 use std::io::Read;
 
-// How many bytes were read, or that reading failed.
-#[derive(Clone, Copy)]
-pub enum Input {
-    Failed,
-    Bytes(usize),
-}
-
-// Reads until the buffer is full, the input ends or a read fails.
-pub fn read_text(reader: &mut impl Read, buffer: &mut [u8]) -> Input
-    ensures { Inputs.Within (length buffer.new) result }
+// Reads until the buffer is full or the input ends, and returns how many bytes were read.
+pub fn read_text(reader: &mut impl Read, buffer: &mut [u8]) -> io::Result<usize>
+    ensures { IfOk result (λ n. n ≤ length buffer.new) }
 {
     let mut done = 0;
+    // A `for` is no plainer: the reader says how far each round comes.
     while done < buffer.len() {
-        match reader.read(&mut buffer[done..]) {
-            Err(_) => return Input::Failed,
-            Ok(0) => return Input::Bytes(done),
-            Ok(n) => done += n,
+        match reader.read(&mut buffer[done..])? {
+            0 => break,
+            n => done += n,
         }
     }
-    Input::Bytes(done)
+    Ok(done)
 }

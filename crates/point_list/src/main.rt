@@ -5,10 +5,11 @@
 mod input;
 mod work;
 
-use crate::input::{Input, read_text};
+use crate::input::read_text;
 use crate::work::{LONGEST, listing_of};
 
 // Prints the listing of a text, or the refusal's header.
+#[tactic(auto, unfolding(lent::specs::Over::over))]
 fn print_listing(rt: &(impl Print + Eprint), text: &[u8]) {
     let mut listing = [0u8; LONGEST];
     let n = listing_of(text, &mut listing);
@@ -21,9 +22,9 @@ fn print_listing(rt: &(impl Print + Eprint), text: &[u8]) {
 fn main(rt: HostRuntime) {
     let mut buffer = [0u8; 36865];
     match read_text(&mut rt.stdin(), &mut buffer) {
-        Input::Failed => {
+        Ok(n) => print_listing(&rt, &buffer[..n]),
+        Err(_) => {
             let _ = rt.eprintln("point-list: the input could not be read");
         }
-        Input::Bytes(n) => print_listing(&rt, &buffer[..n]),
     }
 }

@@ -1,8 +1,6 @@
 // What the program prints for a text. The definitions are in specs/Printed.antt.
 ghost use Rattle.point_list.specs.Printed as Printed;
 
-use column::Listed;
-
 // The bytes of the longest listing: its header, and a row for each of 512 points.
 pub const LONGEST: usize = 5130;
 
@@ -15,10 +13,10 @@ pub fn listing_of(text: &[u8], listing: &mut [u8]) -> usize
         return 0;
     }
     match column::point_list(text, listing) {
-        Listed::Refused(refusal) => {
-            listing::write_header(refusal.number(), refusal.place() as u64, listing);
+        Ok(bytes) => bytes,
+        Err(refusal) => {
+            listing::write_header(refusal.number(), u64::from(refusal.place()), listing);
             10
         }
-        Listed::Bytes(bytes) => bytes,
     }
 }

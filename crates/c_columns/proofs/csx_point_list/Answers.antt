@@ -3,14 +3,14 @@ use mathlib.Core.Path.{sym, ◌∙◌}
 use Rattle.column.specs.CallLaws.{listed_refused, listed_bytes}
 use Rattle.c_columns.proofs.csx_point_list.Goals as goal
 
-pub returns-in-Refused : goal.returns-in-Refused
-returns-in-Refused c =
+pub returns-in-Err : goal.returns-in-Err
+returns-in-Err c =
     let lists = c.point_list.ensures in
-    let refused = listed_refused _ _ _ (sym lists.answer ∙ c.in-Refused.is) in
+    let refused = listed_refused _ _ _ (sym lists.answer ∙ c.in-Err.is) in
     record { answer = rw refused c.code.ensures; listing = lists.listing }
 
-pub returns-in-Bytes : goal.returns-in-Bytes
-returns-in-Bytes c =
+pub returns-in-Ok : goal.returns-in-Ok
+returns-in-Ok c =
     let lists = c.point_list.ensures in
-    let found = listed_bytes _ _ _ (sym lists.answer ∙ c.in-Bytes.is) in
+    let found = listed_bytes _ _ _ (sym lists.answer ∙ c.in-Ok.is) in
     record { answer = rw found.0 found.1; listing = lists.listing }

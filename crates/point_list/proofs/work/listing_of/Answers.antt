@@ -16,20 +16,20 @@ returns-then-listing-lt-LONGEST c =
     let short = lt-leb 5130 (length c.args.listing.now) (omega arith) in
     record { bytes = rw short; listing = rw short (sym (over_nothing c.args.listing.now)) }
 
-pub returns-in-Refused : goal.returns-in-Refused
+pub returns-in-Err : goal.returns-in-Err
 unfolding printed answer_or column_answer written header
-returns-in-Refused c =
+returns-in-Err c =
     let lists = c.point_list.ensures in
     let enough = le-leb 5130 (length c.args.listing.now) (omega arith) in
-    let refused = listed_refused _ _ _ (sym lists.answer ∙ c.in-Refused.is) in
+    let refused = listed_refused _ _ _ (sym lists.answer ∙ c.in-Err.is) in
     let same = rw refused at lists.listing in
-    let written = rw (c.number.ensures, c.place.ensures, same, over_nothing) at c.write_header.ensures in
+    let written = rw (c.number.ensures, c.from.ensures, c.place.ensures, same, over_nothing) at c.write_header.ensures in
     record { bytes = rw (enough, refused) (sym (length_line 3 _ _ (omega arith))); listing = rw (enough, refused) written }
 
-pub returns-in-Bytes : goal.returns-in-Bytes
+pub returns-in-Ok : goal.returns-in-Ok
 unfolding printed answer_or
-returns-in-Bytes c =
+returns-in-Ok c =
     let lists = c.point_list.ensures in
     let enough = le-leb 5130 (length c.args.listing.now) (omega arith) in
-    let found = listed_bytes _ _ _ (sym lists.answer ∙ c.in-Bytes.is) in
+    let found = listed_bytes _ _ _ (sym lists.answer ∙ c.in-Ok.is) in
     record { bytes = rw (enough, found.0) found.1; listing = rw (enough, found.0) lists.listing }
