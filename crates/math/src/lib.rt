@@ -34,7 +34,7 @@ impl Vec3 {
         }
     }
 
-    // The component along axis 0, 1 or 2; any other number counts as 2.
+    // The component along axis 0, 1 or 2; any other number counts as 2. C passes an axis as a number.
     #[tactic(auto, unfolding(crate::specs::Vectors::component))]
     pub fn component(self, axis: u64) -> f64
         ensures { result ≡ Vectors.component self axis }

@@ -64,8 +64,9 @@ fn finite_numbers(shape: Shape, list: &[f64]) -> bool
     ensures { result ≡ Questions.finite_numbers shape list.now }
 {
     match shape {
-        Shape::Box { start, stop } => start.is_finite() & stop.is_finite(),
-        Shape::CylindricalBox { start, stop } => start.is_finite() & stop.is_finite(),
+        Shape::Box { start, stop } | Shape::CylindricalBox { start, stop } => {
+            start.is_finite() & stop.is_finite()
+        }
         Shape::MultiBox => all_finite(list),
         Shape::Sphere { center, radius } => center.is_finite() & float::is_finite(radius),
         Shape::SphericalShell {
