@@ -1,5 +1,5 @@
 -- What leads from the builder's and the list answer's promises to the answers of a small mesh: neither refuses, and the tree is the builder rule's.
-use Rattle.std.specs.Prelude.{ℕ, ◌*◌, ◌≤◌, ◌≡◌, List, Float, length, take}
+use Rattle.std.specs.Prelude.{ℕ, ◌*◌, ◌≤◌, ◌≡◌, Result, Ok, Err, List, Float, length, take}
 use Rattle.std.proofs.Common.{arith, sym, ◌∙◌}
 use borrow.Author.Tests.{le-leb}
 use Rattle.lent.specs.Over.{over, over_whole, take_over, length_over}
@@ -11,8 +11,6 @@ use Rattle.tree.specs.Tree.{tree, node_count}
 use Rattle.tree.specs.TreeRules.{TreeRules}
 use Rattle.tree.specs.TreeTest.{triangle_count_accepted}
 use Rattle.tree_check.specs.Check.{ask_room}
-use Rattle.bvh.specs.declared.build.Built.{Built}
-use Rattle.bvh.specs.declared.build.Built.TheVariants.{Refused, Nodes}
 use Rattle.bvh.specs.Build as Build
 use Rattle.bvh.specs.Build.{room, ask_build}
 use Rattle.builder.specs.Builder.{layout}
@@ -31,7 +29,7 @@ module _ {m : Mesh} {points : List Float} {places : ℕ} (small : Small m points
       let corners = small.few.corners in
       (omega (arith, count, ends), omega (arith, count, ends, corners))
 
-  module _ {boxes₀ : List Float} {nodes₀ items₀ : List ℕ} {result : Built} {boxes₁ : List Float} {nodes₁ items₁ : List ℕ} (work : ℕ) (scratch : Scratch (length boxes₀) (length nodes₀) (length items₀) work) (built : Build.Builds m boxes₀ nodes₀ items₀ result boxes₁ nodes₁ items₁) where
+  module _ {boxes₀ : List Float} {nodes₀ items₀ : List ℕ} {result : Result ℕ Refusal} {boxes₁ : List Float} {nodes₁ items₁ : List ℕ} (work : ℕ) (scratch : Scratch (length boxes₀) (length nodes₀) (length items₀) work) (built : Build.Builds m boxes₀ nodes₀ items₀ result boxes₁ nodes₁ items₁) where
     -- questions 1 to 6 of the builder pass
     passes : Build.verdict m boxes₀ nodes₀ items₀ ≡ Passed
     unfolding ask_build room
@@ -42,7 +40,7 @@ module _ {m : Mesh} {points : List Float} {places : ℕ} (small : Small m points
         let items = le-leb (triangle_count m) (length items₀) (omega (arith, few, scratch.for_items)) in
         rw (small.accepted, boxes, nodes, items)
 
-    found : (result ≡ Nodes (node_count (layout m)))
+    found : (result ≡ Ok (node_count (layout m)))
         × (boxes₁ ≡ over (layout m).boxes boxes₀)
         × (nodes₁ ≡ over (layout m).nodes nodes₀)
         × (items₁ ≡ over (layout m).items items₀)
@@ -50,13 +48,13 @@ module _ {m : Mesh} {points : List Float} {places : ℕ} (small : Small m points
     found = demand3.builder m boxes₀ nodes₀ items₀ result boxes₁ nodes₁ items₁ built passes
 
     -- the builder does not refuse
-    pub not_refused : (refusal : Refusal) → result ≡ Refused refusal → {A : Type 0} → A
+    pub not_refused : (refusal : Refusal) → result ≡ Err refusal → {A : Type 0} → A
     not_refused refusal e {A} =
         let nodes = sym e ∙ found.0 in
         let wrong : ◌≡◌ {A = ℕ} 0 1 = cc in
         absurd (omega (arith, wrong))
 
-    module _ (n : ℕ) (e : result ≡ Nodes n) where
+    module _ (n : ℕ) (e : result ≡ Ok n) where
       pub nodes_found : n ≡ node_count (layout m)
       nodes_found = let same = sym e ∙ found.0 in cc
 

@@ -1,11 +1,12 @@
 // The function that answers a list of points, which crate `zirwennach` gives to C, as include/zirwennach.h declares it.
 #![tactic(auto)]
 
-ghost use Rattle.mesh.specs.Mesh as Mesh;
-ghost use Rattle.tree.specs.Tree as Tree;
+ghost use Rattle.mesh.specs.Mesh as Meshes;
+ghost use Rattle.tree.specs.Tree as Trees;
 ghost use Rattle.c_lists.specs.Lists as Lists;
 
-use refusal::Verdict;
+use mesh_questions::Mesh;
+use tree::Tree;
 
 // `contains_list` of crate `polyhedron`. Returns 0 if nothing is refused.
 pub fn csx_contains_list(
@@ -19,13 +20,20 @@ pub fn csx_contains_list(
     points: &[f64],
     answers: &mut [u8],
 ) -> u64
-    ensures { Lists.Contains (Mesh.mesh coords.now corners.now ends.now) (Tree.tree boxes.now nodes.now items.now) points.now work.old answers.old result work.new answers.new }
+    ensures { Lists.Contains (Meshes.mesh coords.now corners.now ends.now) (Trees.tree boxes.now nodes.now items.now) points.now work.old answers.old result work.new answers.new }
 {
-    let answered = polyhedron::lists::contains_list(
-        coords, corners, ends, boxes, nodes, items, work, points, answers,
-    );
-    match answered {
-        Verdict::Refused(refusal) => refusal.code(),
-        Verdict::Passed => 0,
+    let mesh = Mesh {
+        coords,
+        corners,
+        ends,
+    };
+    let tree = Tree {
+        boxes,
+        nodes,
+        items,
+    };
+    match polyhedron::lists::contains_list(&mesh, &tree, work, points, answers) {
+        Err(refusal) => refusal.code(),
+        Ok(()) => 0,
     }
 }

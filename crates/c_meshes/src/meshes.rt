@@ -1,8 +1,7 @@
 // Welding as a function for C.
 ghost use Rattle.c_meshes.specs.Welding as Welding;
 
-use refusal::{Refusal, Verdict};
-use weld::Welded;
+use refusal::Refusal;
 
 // Welds triangles, nine numbers each, into a mesh. `sizes` then begins with how many vertices and faces
 // were written.
@@ -16,18 +15,16 @@ pub fn csx_from_triangles(
     ensures { Welding.Welds triangles.now coords.old corners.old ends.old sizes.old result coords.new corners.new ends.new sizes.new }
 {
     if sizes.len() < 2 {
-        let asked = weld::ask_triangles(triangles, coords.len(), corners.len(), ends.len());
-        return match asked {
-            Verdict::Refused(refusal) => refusal.code(),
-            Verdict::Passed => Refusal::Room.code(),
+        return match weld::ask_triangles(triangles, coords.len(), corners.len(), ends.len()) {
+            Err(refusal) => refusal.code(),
+            Ok(()) => Refusal::Room.code(),
         };
     }
-    let welded = weld::from_triangles(triangles, coords, corners, ends);
-    match welded {
-        Welded::Refused(refusal) => refusal.code(),
-        Welded::Sizes { vertices, faces } => {
-            sizes[0] = vertices as u64;
-            sizes[1] = faces as u64;
+    match weld::from_triangles(triangles, coords, corners, ends) {
+        Err(refusal) => refusal.code(),
+        Ok(counts) => {
+            sizes[0] = counts.vertices as u64;
+            sizes[1] = counts.faces as u64;
             0
         }
     }

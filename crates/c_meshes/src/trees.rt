@@ -1,9 +1,10 @@
 // The tree entries as functions for C.
-ghost use Rattle.mesh.specs.Mesh as Mesh;
-ghost use Rattle.tree.specs.Tree as Tree;
+ghost use Rattle.mesh.specs.Mesh as Meshes;
+ghost use Rattle.tree.specs.Tree as LentTrees;
 ghost use Rattle.c_meshes.specs.Trees as Trees;
 
-use refusal::Verdict;
+use mesh_questions::Mesh;
+use tree::Tree;
 
 // Builds the tree of a mesh, and returns how many nodes it has.
 pub fn csx_build_tree(
@@ -14,9 +15,9 @@ pub fn csx_build_tree(
     nodes: &mut [u32],
     items: &mut [u32],
 ) -> u64
-    ensures { Trees.Builds (Mesh.mesh coords.now corners.now ends.now) boxes.old nodes.old items.old result boxes.new nodes.new items.new }
+    ensures { Trees.Builds (Meshes.mesh coords.now corners.now ends.now) boxes.old nodes.old items.old result boxes.new nodes.new items.new }
 {
-    let mesh = mesh_questions::Mesh {
+    let mesh = Mesh {
         coords,
         corners,
         ends,
@@ -38,11 +39,20 @@ pub fn csx_check_tree(
     items: &[u32],
     work: &mut [u64],
 ) -> u64
-    ensures { Trees.Checks (Mesh.mesh coords.now corners.now ends.now) (Tree.tree boxes.now nodes.now items.now) work.old result work.new }
+    ensures { Trees.Checks (Meshes.mesh coords.now corners.now ends.now) (LentTrees.tree boxes.now nodes.now items.now) work.old result work.new }
 {
-    let checked = tree_check::check_tree(coords, corners, ends, boxes, nodes, items, work);
-    match checked {
-        Verdict::Refused(refusal) => refusal.code(),
-        Verdict::Passed => 0,
+    let mesh = Mesh {
+        coords,
+        corners,
+        ends,
+    };
+    let tree = Tree {
+        boxes,
+        nodes,
+        items,
+    };
+    match tree_check::check_tree(&mesh, &tree, work) {
+        Err(refusal) => refusal.code(),
+        Ok(()) => 0,
     }
 }

@@ -1,8 +1,9 @@
 -- Demand 3, whole: face order, vertex numbers and the choice of accepted tree change no answer; the tree check accepts exactly what keeps the tree rules; the
 -- builder writes the tree of the builder rule, which keeps them. The statement only; its proof is `Demand3Theorem.demand3`.
-use Rattle.std.specs.Prelude.{ℕ, ◌<◌, ◌≡◌, List, T, Float, length, get_or}
+use Rattle.std.specs.Prelude.{ℕ, ◌<◌, ◌≡◌, Result, Ok, List, T, Float, length, get_or}
 use Rattle.std.specs.Float.{nan, binary64}
 use Rattle.std.specs.Float.Ieee.{fits}
+use Rattle.refusal.specs.declared.Refusal.{Refusal}
 use Rattle.refusal.specs.Verdicts.{Passed}
 use Rattle.lent.specs.Over.{over}
 use Rattle.mesh_questions.specs.Questions.{ask_mesh}
@@ -10,8 +11,6 @@ use Rattle.mesh.specs.Mesh.{Mesh}
 use Rattle.tree.specs.Tree.{Tree, node_count}
 use Rattle.tree.specs.TreeRules.{TreeRules}
 use Rattle.tree_check.specs.Check.{ask_room, check_answer}
-use Rattle.bvh.specs.declared.build.Built.{Built}
-use Rattle.bvh.specs.declared.build.Built.TheVariants.{Nodes}
 use Rattle.builder.specs.Builder.{layout}
 use Rattle.bvh.specs.Build as Build
 use Rattle.polyhedron.specs.Lists.{ask_list, list_verdict, answers_to, list_answer}
@@ -39,10 +38,10 @@ pub record Demand3 : Type 0 where
       → ask_room m work ≡ Passed
       → (check_answer m t work ≡ Passed → TreeRules m t) × (TreeRules m t → check_answer m t work ≡ Passed)
   -- (c) Where questions 1 to 6 refuse nothing, the builder writes the layout of the builder rule's tree, which keeps the tree rules.
-  pub builder : (m : Mesh) (boxes₀ : List Float) (nodes₀ items₀ : List ℕ) (result : Built) (boxes₁ : List Float) (nodes₁ items₁ : List ℕ)
+  pub builder : (m : Mesh) (boxes₀ : List Float) (nodes₀ items₀ : List ℕ) (result : Result ℕ Refusal) (boxes₁ : List Float) (nodes₁ items₁ : List ℕ)
       → Build.Builds m boxes₀ nodes₀ items₀ result boxes₁ nodes₁ items₁
       → Build.verdict m boxes₀ nodes₀ items₀ ≡ Passed
-      → (result ≡ Nodes (node_count (layout m)))
+      → (result ≡ Ok (node_count (layout m)))
       × (boxes₁ ≡ over (layout m).boxes boxes₀)
       × (nodes₁ ≡ over (layout m).nodes nodes₀)
       × (items₁ ≡ over (layout m).items items₀)

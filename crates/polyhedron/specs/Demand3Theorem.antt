@@ -4,7 +4,7 @@ use Rattle.std.proofs.Math.Path.{fun_ext}
 use Rattle.refusal.specs.Verdicts.{written, then_passed}
 use Rattle.mesh_questions.specs.Accepted.{accepted}
 use Rattle.tree_check.specs.Check.{check_accepts}
-use Rattle.bvh.specs.Build.{ask_build, build_answer}
+use Rattle.bvh.specs.Build.{ask_build}
 use Rattle.builder.specs.BuilderTheorem.{layout_rules}
 use Rattle.polyhedron.specs.Lists.{list_verdict, answers_to, list_answer}
 use Rattle.polyhedron.specs.Demand3.{Demand3}
@@ -13,7 +13,7 @@ use Rattle.polyhedron.specs.RewrittenScan.{plain_scan_rewritten}
 
 -- demand 3, whole
 pub demand3 : Demand3
-unfolding list_verdict answers_to list_answer written ask_build build_answer
+unfolding list_verdict answers_to list_answer written ask_build
 demand3 =
     record {
       answers = λ m m' f a r. (rewritten_accepted a r, λ t work list places tree asked. (rw (tree, asked), rw (tree, asked, fun_ext (plain_scan_rewritten f a r))));

@@ -1,6 +1,6 @@
 -- The law that a welded mesh is accepted: questions 1 to 5 let it pass, and so they do what `from_triangles` wrote. Its faces are the kept triangles (`faces_welded`), each corner is
 -- the number of a vertex (`corners_below`), and each vertex is a finite corner (`finite_add_all`).
-use Rattle.std.specs.Prelude.{ℕ, ◌+◌, ◌-◌, ◌*◌, ◌/◌, ◌%◌, ◌≤◌, Bool, true, false, cond, ◌≡◌, refl, List, [], ◌∷◌, ◌++◌, map, ltb, Float, length, take, drop}
+use Rattle.std.specs.Prelude.{ℕ, ◌+◌, ◌-◌, ◌*◌, ◌/◌, ◌%◌, ◌≤◌, Bool, true, false, cond, ◌≡◌, refl, List, [], ◌∷◌, ◌++◌, map, ltb, Float, Ok, length, take, drop}
 use Rattle.std.proofs.Common.{arith, ⊎_elim, sym, ap, append_assoc, length-append, eq-or-lt_of_le, eq-eqb, le-leb, lt-ltb}
 use Rattle.std.proofs.Math.Seq.{drop-append_seam}
 use Rattle.lent.specs.Over.{take_over}
@@ -12,8 +12,7 @@ use Rattle.mesh.specs.Triangles.{triangle}
 use Rattle.mesh_questions.specs.Faces as Faces
 use Rattle.mesh_questions.specs.Questions.{whole_vertices, ends_fit, faces_fit, ask_lengths, all_below, ask_face, ask_faces, ask_finite, ask_vertices, ask_parts, ask_mesh}
 use Rattle.weld.specs.Welding.{find, add, add_all, degenerate, kept, faces_among, numbers, corners_of, ends_from, vertices, faces, coords, corners, ends}
-use Rattle.weld.specs.declared.Welded.TheVariants.{Sizes}
-use Rattle.weld.specs.Questions.{whole_triangles, ask_corners, Welds}
+use Rattle.weld.specs.Questions.{whole_triangles, ask_corners, sizes, Welds}
 use Rattle.weld.specs.Finding.{find_le, add_new, add_found, length_add_all, find_below}
 use Rattle.weld.specs.Lists.{length_numbers, points_numbers, length_corners_of, corners_of_append, length_ends_from, length_faces_among}
 use Rattle.weld.specs.Passed.{whole_passed, triangles_passed, answer_sizes, finite_head, same_self}
@@ -137,7 +136,7 @@ welded_accepted triangles whole finite =
 
 -- What `from_triangles` wrote, cut to the vertices and faces that it answers, passes questions 1 to 5.
 pub written_accepted : (triangles coords₀ : List Float) (corners₀ ends₀ : List ℕ) (n k : ℕ) (coords₁ : List Float) (corners₁ ends₁ : List ℕ)
-    → Welds triangles coords₀ corners₀ ends₀ (Sizes n k) coords₁ corners₁ ends₁
+    → Welds triangles coords₀ corners₀ ends₀ (Ok (sizes n k)) coords₁ corners₁ ends₁
     → ask_mesh (take (3 * n) coords₁) (take (3 * k) corners₁) (take k ends₁) ≡ Passed
 unfolding written coords corners ends
 written_accepted triangles coords₀ corners₀ ends₀ n k coords₁ corners₁ ends₁ w =

@@ -1,20 +1,18 @@
 -- What follows if the questions pass: the lengths, and that each point is finite and so the same as itself; and which answer says that
 -- they pass.
-use Rattle.std.specs.Prelude.{ℕ, zero, suc, ◌+◌, ◌*◌, ◌/◌, ◌%◌, ◌≤◌, true, ◌≡◌, refl, List, [], ◌∷◌, Float, length, drop}
-use Rattle.std.proofs.Common.{arith, eqb-true, leb-true}
+use Rattle.std.specs.Prelude.{ℕ, zero, suc, ◌+◌, ◌*◌, ◌/◌, ◌%◌, ◌≤◌, true, ◌≡◌, refl, List, [], ◌∷◌, Float, Ok, length, drop}
+use Rattle.std.proofs.Common.{ap, arith, eqb-true, leb-true}
 use Rattle.std.specs.Float.Ieee.{eq}
 use Rattle.std.specs.Float.Ieee.Bits.{is_true}
-use Rattle.std.specs.Prelude.{Ok, Err}
 use Rattle.float.specs.Order.{finite_number, le_refl, le_antisym}
 use Rattle.float.specs.Rules as Rules
 use Rattle.math.specs.declared.Vec3.{Vec3}
 use Rattle.math.specs.Vectors.{is_finite}
-use Rattle.refusal.specs.declared.Refusal.{Refusal}
-use Rattle.refusal.specs.Verdicts.{Passed, Verdict, ask_passed, then_passed, both}
+use Rattle.refusal.specs.Verdicts.{Passed, Verdict, answered, answered_ok, ask_passed, then_passed, both}
 use Rattle.mesh_questions.specs.Questions.{ask_finite, ask_vertices}
-use Rattle.weld.specs.declared.Welded.TheVariants as Answers
+use Rattle.weld.specs.declared.Counts.{Counts}
 use Rattle.weld.specs.Welding.{same, vertices, faces}
-use Rattle.weld.specs.Questions.{whole_triangles, ask_corners, room, ask_triangles, weld_answer}
+use Rattle.weld.specs.Questions.{whole_triangles, ask_corners, room, sizes, counts, ask_triangles}
 
 -- question 1
 pub whole_passed : (l : List Float) → whole_triangles l ≡ true → (length l % 9 ≡ 0) × (length l / 9 ≤ 21845)
@@ -41,16 +39,10 @@ triangles_passed l coords corners ends h =
     (ask_passed _ _ first.0, second.0, ask_passed _ _ second.1)
 
 -- an answer with sizes says that the questions passed, and how many vertices and faces there are
-pub answer_sizes : (v : Verdict) (triangles : List Float) (n k : ℕ) → weld_answer v triangles ≡ Answers.Sizes n k → (v ≡ Passed) × (n ≡ length (vertices triangles)) × (k ≡ length (faces triangles))
-unfolding weld_answer
-answer_sizes Passed triangles n k e = (refl, cc, cc)
-answer_sizes (Err refusal) triangles n k e = (cc, cc, cc)
-
--- an answer with a refusal is that of the questions
-pub answer_refused : (v : Verdict) (triangles : List Float) (refusal : Refusal) → weld_answer v triangles ≡ Answers.Refused refusal → v ≡ Err refusal
-unfolding weld_answer
-answer_refused Passed triangles refusal e = cc
-answer_refused (Err other) triangles refusal e = cc
+pub answer_sizes : (v : Verdict) (triangles : List Float) (n k : ℕ) → answered v (counts triangles) ≡ Ok (sizes n k) → (v ≡ Passed) × (n ≡ length (vertices triangles)) × (k ≡ length (faces triangles))
+answer_sizes v triangles n k e =
+    let parts = answered_ok v (counts triangles) (sizes n k) e in
+    (parts.0, ap (λ (c : Counts). c.vertices) parts.1, ap (λ (c : Counts). c.faces) parts.1)
 
 -- the first of vertices that are all finite is, and so are the others
 pub finite_head : (m : ℕ) (p : Vec3) (rest : List Vec3) → ask_vertices m (p ∷ rest) ≡ Passed → (is_finite p ≡ true) × (ask_vertices (m + 1) rest ≡ Passed)

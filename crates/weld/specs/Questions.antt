@@ -1,13 +1,12 @@
 -- Document 01's questions 1, 5 and 6 of triangles to weld, and what `from_triangles` promises. Definitions only.
-use Rattle.std.specs.Prelude.{ℕ, ◌*◌, ◌/◌, ◌%◌, Bool, ◌&&◌, ◌≡◌, List, eqb, leb, Float, length}
-use Rattle.std.specs.Prelude.{Ok, Err}
+use Rattle.std.specs.Prelude.{ℕ, ◌*◌, ◌/◌, ◌%◌, Bool, ◌&&◌, ◌≡◌, List, Result, eqb, leb, Float, length}
 use Rattle.lent.specs.Over.{over}
 use Rattle.math.specs.Vectors.{points}
+use Rattle.refusal.specs.declared.Refusal.{Refusal}
 use Rattle.refusal.specs.declared.Refusal.TheVariants.{Coordinates, Room}
-use Rattle.refusal.specs.Verdicts.{Passed, Verdict, ask, then, written}
+use Rattle.refusal.specs.Verdicts.{Verdict, ask, then, answered, written}
 use Rattle.mesh_questions.specs.Questions.{ask_vertices}
-use Rattle.weld.specs.declared.Welded.{Welded}
-use Rattle.weld.specs.declared.Welded.TheVariants.{Refused, Sizes}
+use Rattle.weld.specs.declared.Counts.{Counts}
 use Rattle.weld.specs.Welding as Welding
 
 -- question 1: is the list a multiple of 9 numbers long, with at most 21,845 triangles?
@@ -33,14 +32,17 @@ ask_triangles triangles coords corners ends =
 abbrev pub verdict : List Float → List Float → List ℕ → List ℕ → Verdict
 verdict triangles coords corners ends = ask_triangles triangles (length coords) (length corners) (length ends)
 
--- the answer: the number of vertices and of faces unless a question refuses
-unfoldable pub weld_answer : Verdict → List Float → Welded
-weld_answer Passed triangles = Sizes (length (Welding.vertices triangles)) (length (Welding.faces triangles))
-weld_answer (Err refusal) triangles = Err refusal
+-- so many vertices and faces
+abbrev pub sizes : ℕ → ℕ → Counts
+sizes vertices faces = record { vertices = vertices; faces = faces }
+
+-- how many are written
+abbrev pub counts : List Float → Counts
+counts triangles = sizes (length (Welding.vertices triangles)) (length (Welding.faces triangles))
 
 -- what `from_triangles` promises: its answer, and of each buffer, lent as ₀ and left as ₁, the written front and the rest as it was
-pub record Welds (triangles coords₀ : List Float) (corners₀ ends₀ : List ℕ) (result : Welded) (coords₁ : List Float) (corners₁ ends₁ : List ℕ) : Type 0 where
-  pub answer : result ≡ weld_answer (verdict triangles coords₀ corners₀ ends₀) triangles
+pub record Welds (triangles coords₀ : List Float) (corners₀ ends₀ : List ℕ) (result : Result Counts Refusal) (coords₁ : List Float) (corners₁ ends₁ : List ℕ) : Type 0 where
+  pub answer : result ≡ answered (verdict triangles coords₀ corners₀ ends₀) (counts triangles)
   pub coords : coords₁ ≡ over (written (verdict triangles coords₀ corners₀ ends₀) (Welding.coords triangles)) coords₀
   pub corners : corners₁ ≡ over (written (verdict triangles coords₀ corners₀ ends₀) (Welding.corners triangles)) corners₀
   pub ends : ends₁ ≡ over (written (verdict triangles coords₀ corners₀ ends₀) (Welding.ends triangles)) ends₀

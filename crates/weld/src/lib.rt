@@ -11,20 +11,13 @@ ghost use Rattle.weld.specs.Steps.{first, Finds, Adds, AddsThree, Keeps, WeldsAl
 
 use math::Vec3;
 use mesh::Triangle;
-use refusal::{Refusal, Verdict};
-
-// What `from_triangles` answers: a refusal, or how many vertices and faces it wrote.
-#[derive(Clone, Copy)]
-pub enum Welded {
-    Refused(Refusal),
-    Sizes { vertices: usize, faces: usize },
-}
+use refusal::Refusal;
 
 // How many vertices and faces are written.
 #[derive(Clone, Copy)]
-struct Counts {
-    vertices: usize,
-    faces: usize,
+pub struct Counts {
+    pub vertices: usize,
+    pub faces: usize,
 }
 
 // The number of the first vertex that is the same as `p`: its coordinates are equal as numbers.
@@ -86,9 +79,9 @@ fn keep_triangle(t: Triangle, corners: &mut [u32], ends: &mut [u32], count: &mut
 
 // Welds all triangles, which have passed the questions.
 fn weld_all(triangles: &[f64], coords: &mut [f64], corners: &mut [u32], ends: &mut [u32]) -> Counts
-    requires triangles_value { whole_triangles triangles.now ≡ true }
-    requires triangles_value_2 { ask_corners triangles.now ≡ Passed }
-    requires ends_value { room (length triangles.now / 9) (length coords.old) (length corners.old) (length ends.old) ≡ true }
+    requires whole { whole_triangles triangles.now ≡ true }
+    requires finite { ask_corners triangles.now ≡ Passed }
+    requires room { room (length triangles.now / 9) (length coords.old) (length corners.old) (length ends.old) ≡ true }
     ensures { WeldsAll triangles.now coords.old corners.old ends.old result coords.new corners.new ends.new }
 {
     let mut counts = Counts {
@@ -104,23 +97,24 @@ fn weld_all(triangles: &[f64], coords: &mut [f64], corners: &mut [u32], ends: &m
 }
 
 // Questions 1, 5 and 6, with the lengths of the buffers.
-pub fn ask_triangles(triangles: &[f64], coords: usize, corners: usize, ends: usize) -> Verdict
+#[tactic(auto, unfolding(crate::specs::Questions::ask_triangles, crate::specs::Questions::whole_triangles, crate::specs::Questions::ask_corners, crate::specs::Questions::room))]
+pub fn ask_triangles(
+    triangles: &[f64],
+    coords: usize,
+    corners: usize,
+    ends: usize,
+) -> Result<(), Refusal>
     ensures { result ≡ ask_triangles triangles.now coords corners ends }
 {
     let n = triangles.len() / 9;
     if !((triangles.len() % 9 == 0) & (n <= 21845)) {
-        return Verdict::Refused(Refusal::Coordinates);
+        return Err(Refusal::Coordinates);
     }
-    let finite = mesh_questions::ask_vertices(triangles);
-    match finite {
-        Verdict::Refused(refusal) => Verdict::Refused(refusal),
-        Verdict::Passed => {
-            if (9 * n <= coords) & (3 * n <= corners) & (n <= ends) {
-                Verdict::Passed
-            } else {
-                Verdict::Refused(Refusal::Room)
-            }
-        }
+    mesh_questions::ask_vertices(triangles)?;
+    if (9 * n <= coords) & (3 * n <= corners) & (n <= ends) {
+        Ok(())
+    } else {
+        Err(Refusal::Room)
     }
 }
 
@@ -131,18 +125,9 @@ pub fn from_triangles(
     coords: &mut [f64],
     corners: &mut [u32],
     ends: &mut [u32],
-) -> Welded
+) -> Result<Counts, Refusal>
     ensures { Welds triangles.now coords.old corners.old ends.old result coords.new corners.new ends.new }
 {
-    let verdict = ask_triangles(triangles, coords.len(), corners.len(), ends.len());
-    match verdict {
-        Verdict::Refused(refusal) => Welded::Refused(refusal),
-        Verdict::Passed => {
-            let counts = weld_all(triangles, coords, corners, ends);
-            Welded::Sizes {
-                vertices: counts.vertices,
-                faces: counts.faces,
-            }
-        }
-    }
+    ask_triangles(triangles, coords.len(), corners.len(), ends.len())?;
+    Ok(weld_all(triangles, coords, corners, ends))
 }

@@ -15,8 +15,8 @@ numbered : (m : Mesh) (t : Tree) (list : List Float) (work₀ answers₀ work an
 numbered m t list work₀ answers₀ work answers verdict said result contains same e =
     record { answer = rw (← contains.verdict, same) e; answers = contains.answers; work = contains.work }
 
-pub returns-in-Refused : goal.returns-in-Refused
-returns-in-Refused c = numbered _ _ _ _ _ _ _ _ _ _ c.contains_list-answered.ensures c.in-Refused.is c.code.ensures
+pub returns-in-Err : goal.returns-in-Err
+returns-in-Err c = numbered _ _ _ _ _ _ _ _ _ _ c.contains_list.ensures c.in-Err.is c.code.ensures
 
-pub returns-in-Passed : goal.returns-in-Passed
-returns-in-Passed c = numbered _ _ _ _ _ _ _ _ _ _ c.contains_list-answered.ensures c.in-Passed.is refl
+pub returns-in-Ok : goal.returns-in-Ok
+returns-in-Ok c = numbered _ _ _ _ _ _ _ _ _ _ c.contains_list.ensures c.in-Ok.is refl

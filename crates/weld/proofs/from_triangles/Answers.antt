@@ -5,26 +5,26 @@ use mathlib.Core.Path.{◌≡◌, sym, ◌∙◌}
 use mathlib.Core.List.{List}
 use lib.Ieee.{Float}
 use Rattle.std.specs.Prelude.{Ok, Err}
+use Rattle.std.proofs.lemmas.Result.{err_from_is_err_and}
 use Rattle.lent.specs.Over.{over}
 use Rattle.refusal.specs.declared.Refusal.{Refusal}
 use Rattle.refusal.specs.Verdicts.{Passed, written}
 use Rattle.weld.specs.declared.Counts.{Counts}
-use Rattle.weld.specs.declared.Welded.TheVariants.{Refused, Sizes}
-use Rattle.weld.specs.Questions.{verdict, weld_answer, Welds}
+use Rattle.weld.specs.Questions.{verdict, Welds}
 use Rattle.weld.specs.Steps.{WeldsAll}
 use Rattle.weld.specs.Passed.{triangles_passed}
 use Rattle.weld.proofs.from_triangles.Goals as goal
 
 refused : (triangles coords : List Float) (corners ends : List ℕ) (refusal : Refusal) → verdict triangles coords corners ends ≡ Err refusal
     → Welds triangles coords corners ends (Err refusal) coords corners ends
-unfolding weld_answer written over
+unfolding written over
 refused triangles coords corners ends refusal e = record { answer = rw e; coords = rw e; corners = rw e; ends = rw e }
 
 passed : (triangles coords : List Float) (corners ends : List ℕ) (counts : Counts) (coords' : List Float) (corners' ends' : List ℕ)
     → verdict triangles coords corners ends ≡ Passed
     → WeldsAll triangles coords corners ends counts coords' corners' ends'
-    → Welds triangles coords corners ends (Sizes counts.vertices counts.faces) coords' corners' ends'
-unfolding weld_answer written
+    → Welds triangles coords corners ends (Ok counts) coords' corners' ends'
+unfolding written
 passed triangles coords corners ends counts coords' corners' ends' e all =
     record {
       answer = rw (e, all.vertices, all.faces);
@@ -33,14 +33,15 @@ passed triangles coords corners ends counts coords' corners' ends' e all =
       ends = rw e all.ends;
     }
 
-pub weld_all-counts-requires : goal.weld_all-counts-requires
-weld_all-counts-requires c =
-    let a = c.args in
-    let all = triangles_passed a.triangles.now _ _ _ (sym c.ask_triangles-verdict.ensures ∙ c.in-Passed.is) in
-    record { triangles_value = all.0; triangles_value_2 = all.1; ends_value = all.2 }
+pub returns-in_err-ask_triangles : goal.returns-in_err-ask_triangles
+returns-in_err-ask_triangles c =
+    let p = err_from_is_err_and c.from_residual.result c.from_residual.ensures.1 in
+    rw (p.1, p.2) (refused _ _ _ _ _ (sym c.in_err-ask_triangles.ensures))
 
-pub returns-in-Refused : goal.returns-in-Refused
-returns-in-Refused c = refused _ _ _ _ _ (sym c.ask_triangles-verdict.ensures ∙ c.in-Refused.is)
+pub weld_all-requires : goal.weld_all-requires
+weld_all-requires c =
+    let all = triangles_passed c.args.triangles.now _ _ _ (sym c.in_ok-ask_triangles.ensures) in
+    record { whole = all.0; finite = all.1; room = all.2 }
 
-pub returns-in-Passed : goal.returns-in-Passed
-returns-in-Passed c = passed _ _ _ _ _ _ _ _ (sym c.ask_triangles-verdict.ensures ∙ c.in-Passed.is) c.weld_all-counts.ensures
+pub returns : goal.returns
+returns c = passed _ _ _ _ _ _ _ _ (sym c.in_ok-ask_triangles.ensures) c.weld_all.ensures

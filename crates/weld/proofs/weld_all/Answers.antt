@@ -34,15 +34,15 @@ loop-triangle-init c = done_none _ _ _ _
 pub add_corners-t-requires : goal.add_corners-t-requires
 add_corners-t-requires c =
     let a = c.args in
-    let whole = whole_passed a.triangles.now c.requires.triangles_value in
-    let room = room_passed (length a.triangles.now / 9) _ _ _ c.requires.ends_value in
+    let whole = whole_passed a.triangles.now c.requires.whole in
+    let room = room_passed (length a.triangles.now / 9) _ _ _ c.requires.room in
     omega (arith, length_vertices_to a.triangles.now c.loop-triangle.triangle-index (omega arith))
 
 pub keep_triangle-requires : goal.keep_triangle-requires
 keep_triangle-requires c =
     let a = c.args in
-    let whole = whole_passed a.triangles.now c.requires.triangles_value in
-    let room = room_passed (length a.triangles.now / 9) _ _ _ c.requires.ends_value in
+    let whole = whole_passed a.triangles.now c.requires.whole in
+    let room = room_passed (length a.triangles.now / 9) _ _ _ c.requires.room in
     omega (arith, length_faces_to a.triangles.now c.loop-triangle.triangle-index (omega arith))
 
 pub loop-triangle-preserved : goal.loop-triangle-preserved
@@ -54,7 +54,7 @@ loop-triangle-preserved c =
     let h : i < length l / 9 = omega arith in
     let start : 9 * i + 0 ≡ 9 * i = omega arith in
     let adds = rw (corner l all i 0 e h (omega arith), corner l all i 3 e h (omega arith), corner l all i 6 e h (omega arith), start) at c.add_corners-t.ensures in
-    done_next _ _ _ _ _ _ _ _ _ _ c.loop-triangle.invariant h c.requires.triangles_value_2 _ _ _ adds _ _ _ c.keep_triangle.ensures
+    done_next _ _ _ _ _ _ _ _ _ _ c.loop-triangle.invariant h c.requires.finite _ _ _ adds _ _ _ c.keep_triangle.ensures
 
 pub returns : goal.returns
-returns c = done_all _ _ _ _ _ _ _ _ _ _ c.loop-triangle.invariant (whole_passed c.args.triangles.now c.requires.triangles_value).0 (omega arith)
+returns c = done_all _ _ _ _ _ _ _ _ _ _ c.loop-triangle.invariant (whole_passed c.args.triangles.now c.requires.whole).0 (omega arith)

@@ -8,33 +8,33 @@ use Rattle.c_meshes.specs.Welding.{verdict}
 use Rattle.c_meshes.proofs.Welding.{refused, welding_refused, welding_passed}
 use Rattle.c_meshes.proofs.meshes.csx_from_triangles.Goals as goal
 
-pub returns-in-Refused : goal.returns-in-Refused
+pub returns-in-Err : goal.returns-in-Err
 unfolding verdict
-returns-in-Refused c =
+returns-in-Err c =
     let a = c.args in
-    let asked = sym c.ask_triangles-asked.ensures ∙ c.in-Refused.is in
-    let said : verdict a.triangles.now a.coords.now a.corners.now a.ends.now a.sizes.now ≡ Err c.in-Refused.refusal = rw asked in
+    let asked = sym c.ask_triangles.ensures ∙ c.in-Err.is in
+    let said : verdict a.triangles.now a.coords.now a.corners.now a.ends.now a.sizes.now ≡ Err c.in-Err.refusal = rw asked in
     rw c.code.ensures (refused a.triangles.now a.coords.now a.corners.now a.ends.now a.sizes.now _ said)
 
-pub returns-in-Passed : goal.returns-in-Passed
+pub returns-in-Ok : goal.returns-in-Ok
 unfolding verdict
-returns-in-Passed c =
+returns-in-Ok c =
     let a = c.args in
-    let asked = sym c.ask_triangles-asked.ensures ∙ c.in-Passed.is in
+    let asked = sym c.ask_triangles.ensures ∙ c.in-Ok.is in
     let short = lt-leb _ _ c.if-sizes-lt2.true in
     let said : verdict a.triangles.now a.coords.now a.corners.now a.ends.now a.sizes.now ≡ Err Room = rw (asked, short) in
-    rw c.code-in-Passed.ensures (refused a.triangles.now a.coords.now a.corners.now a.ends.now a.sizes.now Room said)
+    rw c.code-in-Ok.ensures (refused a.triangles.now a.coords.now a.corners.now a.ends.now a.sizes.now Room said)
 
-pub returns-in-Refused-welded : goal.returns-in-Refused-welded
-returns-in-Refused-welded c =
+pub returns-in-Err-from_triangles : goal.returns-in-Err-from_triangles
+returns-in-Err-from_triangles c =
     let a = c.args in
-    let welded = c.from_triangles-welded.ensures in
+    let welded = c.from_triangles.ensures in
     let room = c.if-sizes-lt2.false in
-    rw c.code-in-Refused-welded.ensures (welding_refused a.triangles.now a.coords.now a.corners.now a.ends.now a.sizes.now _ _ _ _ welded room _ c.in-Refused-welded.is)
+    rw c.code-in-Err-from_triangles.ensures (welding_refused a.triangles.now a.coords.now a.corners.now a.ends.now a.sizes.now _ _ _ _ welded room _ c.in-Err-from_triangles.is)
 
-pub returns-in-Sizes : goal.returns-in-Sizes
-returns-in-Sizes c =
+pub returns-in-Ok-from_triangles : goal.returns-in-Ok-from_triangles
+returns-in-Ok-from_triangles c =
     let a = c.args in
-    let welded = c.from_triangles-welded.ensures in
+    let welded = c.from_triangles.ensures in
     let room = c.if-sizes-lt2.false in
-    welding_passed a.triangles.now a.coords.now a.corners.now a.ends.now a.sizes.now _ _ _ _ welded room _ _ c.in-Sizes.is
+    welding_passed a.triangles.now a.coords.now a.corners.now a.ends.now a.sizes.now _ _ _ _ welded room _ c.in-Ok-from_triangles.is

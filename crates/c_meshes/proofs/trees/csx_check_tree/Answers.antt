@@ -12,8 +12,8 @@ use Rattle.c_meshes.proofs.trees.csx_check_tree.Goals as goal
 numbered : (m : Mesh) (t : Tree) (work₀ work : List ℕ) (verdict said : Verdict) (result : ℕ) → Check.Checks m t work₀ verdict work → verdict ≡ said → result ≡ returned said 0 → Checks m t work₀ result work
 numbered m t work₀ work verdict said result checked same e = record { answer = rw (← checked.answer, same) e; work = checked.work }
 
-pub returns-in-Refused : goal.returns-in-Refused
-returns-in-Refused c = numbered _ _ _ _ _ _ _ c.check_tree-checked.ensures c.in-Refused.is c.code.ensures
+pub returns-in-Err : goal.returns-in-Err
+returns-in-Err c = numbered _ _ _ _ _ _ _ c.check_tree.ensures c.in-Err.is c.code.ensures
 
-pub returns-in-Passed : goal.returns-in-Passed
-returns-in-Passed c = numbered _ _ _ _ _ _ _ c.check_tree-checked.ensures c.in-Passed.is refl
+pub returns-in-Ok : goal.returns-in-Ok
+returns-in-Ok c = numbered _ _ _ _ _ _ _ c.check_tree.ensures c.in-Ok.is refl

@@ -1,0 +1,34 @@
+-- `contains_list` meets its contract: the calls promise the verdicts, the work places and the answers, and `ListLaws` leads from there to `Contains`.
+use mathlib.Core.Path.{sym, ◌∙◌}
+use Rattle.std.proofs.lemmas.Result.{err_from_is_err_and}
+use Rattle.refusal.specs.Verdicts.{answered_ok, answered_err}
+use Rattle.polyhedron.specs.ListLaws.{checks_of, refused_tree, refused_list, room_left, answerable, answered}
+use Rattle.polyhedron.proofs.lists.contains_list.Goals as goal
+
+pub returns-in_err-accepted : goal.returns-in_err-accepted
+returns-in_err-accepted c =
+    let p = err_from_is_err_and c.from_residual.result c.from_residual.ensures.1 in
+    let refused = answered_err _ _ _ (sym c.in_err-accepted.ensures.answer) in
+    rw (p.1, p.2) (refused_tree (checks_of c.accept_tree.ensures) c.args.points.now c.args.answers.now refused)
+
+pub returns-in_err-ask_list : goal.returns-in_err-ask_list
+returns-in_err-ask_list c =
+    let p = err_from_is_err_and c.from_residual-in_err-ask_list.result c.from_residual-in_err-ask_list.ensures.1 in
+    let said = answered_ok _ _ _ (sym c.in_ok-accepted.ensures.answer) in
+    rw (p.1, p.2) (refused_list (checks_of c.accept_tree.ensures) said.0 c.args.points.now c.args.answers.now (sym c.in_err-ask_list.ensures))
+
+pub new-prepared-requires : goal.new-prepared-requires
+new-prepared-requires c =
+    let said = answered_ok _ _ _ (sym c.in_ok-accepted.ensures.answer) in
+    rw said.1 (room_left (checks_of c.accept_tree.ensures) said.0)
+
+pub answer_points-requires : goal.answer_points-requires
+answer_points-requires c =
+    let said = answered_ok _ _ _ (sym c.in_ok-accepted.ensures.answer) in
+    answerable (checks_of c.accept_tree.ensures) said.0 c.args.points.now c.args.answers.now (sym c.in_ok-ask_list.ensures)
+
+pub returns : goal.returns
+returns c =
+    let said = answered_ok _ _ _ (sym c.in_ok-accepted.ensures.answer) in
+    let mesh = rw said.1 at c.new-prepared.ensures in
+    answered (checks_of c.accept_tree.ensures) said.0 c.args.points.now c.args.answers.now (sym c.in_ok-ask_list.ensures) mesh.work (rw mesh.mesh at c.answer_points.ensures)
