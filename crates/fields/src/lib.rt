@@ -89,6 +89,7 @@ pub fn write_field(n: u64, field: &mut [u8])
     ensures { field.new ≡ Fields.field_text false (length field.old) n }
 {
     let mut rest = n;
+    // By place: no element says where the blanks in front of it end.
     for i in (0..field.len()).rev() {
         field[i] = 48 + (rest % 10) as u8;
         rest /= 10;
