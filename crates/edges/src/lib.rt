@@ -57,7 +57,8 @@ pub fn edge_keys(corners: &[u32], ends: &[u32], work: &mut [u64])
     keys::sort(&mut work[..n]);
 }
 
-// Whether the keys, in ascending order, stand in pairs: each exactly twice.
+// Whether the keys, in ascending order, stand in pairs: each exactly twice. A turn takes a pair off the
+// front and looks at the key behind it, which no iterator of pairs shows.
 #[tactic(auto, unfolding(crate::specs::Pairs::in_pairs, crate::specs::Pairs::starts_with))]
 fn in_pairs(keys: &[u64]) -> bool
     ensures { result ≡ in_pairs keys.now }
