@@ -53,7 +53,7 @@ below_column text room = below_judged (judged text) (lines text) room (λ n e. b
 -- the listing has at most 5,130 bytes
 written_length : (v : Verdict) (l : List ℕ) (n : ℕ) → length l ≤ n → length (written v l) ≤ n
 unfolding written
-written_length Passed l n h = h
+written_length (Ok passed) l n h = h
 written_length (Err refusal) l n h = omega arith
 
 listing_length_lem : (text : List ℕ) (j : Result Counts ℕ) → judged text ≡ j → length (column_listing j (lines text)) ≤ 5130

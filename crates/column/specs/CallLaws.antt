@@ -4,11 +4,10 @@ use Rattle.std.proofs.Common.{zero-add, arith, sym, ◌∙◌, take_all, length-
 use Rattle.std.proofs.Math.Path.{refl}
 use Rattle.std.proofs.Math.ListN.{length, take, length-drop}
 use borrow.Author.Tests.{le-leb, lt-leb, eq-eqb}
-use Rattle.std.specs.Result.{Ok, Err}
 use Rattle.lent.specs.Over.{over, over_nothing, take_over, length_over}
 use Rattle.refusal.specs.declared.Refusal.{Refusal}
 use Rattle.refusal.specs.declared.Refusal.TheVariants as Refusals
-use Rattle.refusal.specs.Verdicts.{Passed, Verdict, written}
+use Rattle.refusal.specs.Verdicts.{answered, Passed, Verdict, written}
 use Rattle.math.specs.Vectors.{points}
 use Rattle.mesh.specs.Mesh.{Mesh}
 use Rattle.mesh_questions.specs.Questions.{ask_mesh, ask_finite}
@@ -24,7 +23,7 @@ use Rattle.text.specs.Accepted.{Accepted, accepted, good_line}
 use Rattle.listing.specs.Listing.{listing_text, listing_length}
 use Rattle.listing.specs.ListingLaws.{length_listing}
 use Rattle.answers.specs.Answers.{Few}
-use Rattle.column.specs.Column.{mesh_of, points_of, ask_column, column_verdict, column_listing, judged, verdict, column_answer, listed, Lists}
+use Rattle.column.specs.Column.{mesh_of, points_of, ask_column, column_verdict, column_listing, judged, verdict, column_answer, Lists}
 use Rattle.column.specs.Sections.{ListsAnswers}
 use Rattle.numbers.specs.Numbers.{float_of, corner_of, numbers_of, ends_from, Whole}
 use Rattle.numbers.specs.NumberLaws.{length_numbers, length_ends, finite_section}
@@ -34,20 +33,20 @@ use Rattle.numbers.specs.NumberLaws.{length_numbers, length_ends, finite_section
 module _ (m : Mesh) (list : List Float) (places : ℕ) (listing₀ : List ℕ) where
   -- a refusal by 1 to 5
   pub refused_mesh : (refusal : Refusal) → ask_mesh m.coords m.corners m.ends ≡ Err refusal → ListsAnswers m list places listing₀ (Err refusal) listing₀
-  unfolding ask_column listed written
+  unfolding ask_column written
   refused_mesh refusal e = record { answer = rw e; listing = rw e (sym (over_nothing listing₀)) }
 
   module _ (passed : ask_mesh m.coords m.corners m.ends ≡ Passed) where
     -- a refusal by 6
     pub refused_room : length listing₀ < listing_length places → ListsAnswers m list places listing₀ (Err Refusals.Room) listing₀
-    unfolding ask_column listed written
+    unfolding ask_column written
     refused_room h =
         let short = lt-leb (listing_length places) (length listing₀) h in
         record { answer = rw (passed, short); listing = rw (passed, short) (sym (over_nothing listing₀)) }
 
     -- nothing is refused
     pub listed_answers : (listing₁ : List ℕ) → listing_length places ≤ length listing₀ → listing₁ ≡ over (listing_text (answers_to m list)) listing₀ → ListsAnswers m list places listing₀ (Ok (listing_length places)) listing₁
-    unfolding ask_column listed written
+    unfolding ask_column written
     listed_answers listing₁ h e =
         let enough = le-leb (listing_length places) (length listing₀) h in
         record { answer = rw (passed, enough); listing = rw (passed, enough) e }
@@ -75,9 +74,9 @@ length_section : (text : List ℕ) (k n : ℕ) → 36 * (k + n) ≤ length text 
 length_section text k n h = length-take-le n (drop k (lines text)) (omega (arith, length-drop k (lines text), length_lines text))
 
 -- the bytes that are answered are those that are written
-listed_length : (v : Verdict) (text : List ℕ) (bytes : ℕ) → length text ≡ bytes → listed v bytes ≡ listed v (length (written v text))
-unfolding listed written
-listed_length Passed text bytes e = rw e
+listed_length : (v : Verdict) (text : List ℕ) (bytes : ℕ) → length text ≡ bytes → answered v bytes ≡ answered v (length (written v text))
+unfolding written
+listed_length (Ok passed) text bytes e = rw e
 listed_length (Err refusal) text bytes e = refl
 
 -- what was written stands in front
@@ -207,5 +206,5 @@ module _ (text : List ℕ) (counts : Counts) (good : judged text ≡ Ok counts) 
 
 -- a bad line
 pub refused_line : (text listing₀ : List ℕ) (line : ℕ) → judged text ≡ Err line → Lists text listing₀ (Err (Refusals.Line line)) listing₀
-unfolding verdict column_verdict column_answer column_listing listed written
+unfolding verdict column_verdict column_answer column_listing written
 refused_line text listing₀ line e = record { answer = rw e; listing = rw e (sym (over_nothing listing₀)) }

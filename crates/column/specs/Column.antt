@@ -1,6 +1,5 @@
 -- The column call (document 01, Column text): what the lines of a text become, its questions in their order, and its listing. Definitions only.
 use Rattle.std.specs.Prelude.{ℕ, ◌+◌, ◌≡◌, Result, Ok, Err, List, [], leb, Float, length, take, drop}
-use Rattle.std.specs.Result.{Ok, Err}
 use Rattle.lent.specs.Over.{over}
 use Rattle.refusal.specs.declared.Refusal.{Refusal}
 use Rattle.refusal.specs.declared.Refusal.TheVariants as Refusals

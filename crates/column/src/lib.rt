@@ -2,36 +2,30 @@
 #![tactic(auto)]
 
 ghost use Rattle.std.specs.Prelude.{◌≡◌, Ok, length};
-ghost use Rattle.mesh.specs.Mesh as Mesh;
 ghost use Rattle.answers.specs.Answers.{Few};
 ghost use Rattle.column.specs.Column as Column;
 ghost use Rattle.column.specs.Sections as Sections;
 
-use mesh_questions::Asked;
+use mesh_questions::Mesh;
 use refusal::Refusal;
 use text::Counts;
 
 // Questions 1 to 5 of the mesh and 6 for the listing's room, and then the listing of the points' answers.
 fn list_answers(
-    coords: &[f64],
-    corners: &[u32],
-    ends: &[u32],
+    mesh: &Mesh,
     points: &[f64],
     answers: &mut [u8],
     listing: &mut [u8],
 ) -> Result<usize, Refusal>
-    requires { Few (Mesh.mesh coords.now corners.now ends.now) points.now (length answers.old) }
-    ensures { Sections.ListsAnswers (Mesh.mesh coords.now corners.now ends.now) points.now (length answers.old) listing.old result listing.new }
+    requires { Few mesh.now points.now (length answers.old) }
+    ensures { Sections.ListsAnswers mesh.now points.now (length answers.old) listing.old result listing.new }
 {
-    let asked = mesh_questions::ask_mesh(coords, corners, ends);
-    if let Asked::Refused(refusal) = asked {
-        return Err(refusal);
-    }
+    mesh.ask()?;
     let bytes = 10 + 10 * answers.len();
     if listing.len() < bytes {
         return Err(Refusal::Room);
     }
-    answers::answer_points(coords, corners, ends, points, answers);
+    answers::answer_points(mesh, points, answers);
     listing::write_listing(answers, listing);
     Ok(bytes)
 }
@@ -58,14 +52,12 @@ fn list_into(
     numbers::fill(&text[36 * v..36 * (v + t)], corners);
     numbers::fill_ends(t, ends);
     numbers::fill(&text[36 * (v + t)..], points);
-    list_answers(
-        &coords[..3 * v],
-        &corners[..3 * t],
-        &ends[..t],
-        &points[..3 * p],
-        &mut answers[..p],
-        listing,
-    )
+    let mesh = Mesh {
+        coords: &coords[..3 * v],
+        corners: &corners[..3 * t],
+        ends: &ends[..t],
+    };
+    list_answers(&mesh, &points[..3 * p], &mut answers[..p], listing)
 }
 
 // The same with lists of its own, long enough for any text that is accepted.

@@ -9,7 +9,7 @@ use Rattle.column.specs.Column.{verdict, column_answer}
 
 -- the listing unless a question refuses, else the refusal's header
 unfoldable pub answer_or : Verdict → List ℕ → List ℕ
-answer_or Passed listing = listing
+answer_or (Ok passed) listing = listing
 answer_or (Err refusal) listing = header (number refusal) (place refusal)
 
 -- what is printed for a text with room for the longest listing, 5,130 bytes; nothing with less

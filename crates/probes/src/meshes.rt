@@ -1,20 +1,12 @@
 // The mesh layer's inner functions in one call, which asks questions 1 to 5 first, so that it has no requirement. It is
 // proved safe, and the driver compares what it writes.
-ghost use Rattle.std.specs.Prelude.{◌≡◌, ◌+◌, ◌-◌, ◌*◌, ◌≤◌, ◌<◌, length};
-ghost use Rattle.mesh_questions.specs.Accepted.{Accepted};
+ghost use Rattle.std.specs.Prelude.{◌+◌, ◌-◌, ◌*◌, ◌≤◌, ◌<◌, length};
 ghost use Rattle.mesh.specs.Boxes.{Corners};
 
 use math::{BoundingBox, Vec3};
-use mesh::Triangle;
-use mesh_questions::Asked;
+use mesh::{AcceptedMesh, Triangle};
+use mesh_questions::Mesh;
 use refusal::Refusal;
-
-// Writes a number at place `i`.
-fn put_number(x: f64, out: &mut [f64], i: usize)
-    requires { i < length out.old }
-{
-    out[i] = x;
-}
 
 // Writes a vector from place `i` on.
 fn put_vector(v: Vec3, out: &mut [f64], i: usize)
@@ -41,9 +33,9 @@ fn put_triangle(coords: &[f64], t: Triangle, out: &mut [f64], i: usize)
     let own_box = i + 3;
     let center = i + 9;
     let numbers = Vec3 {
-        x: t.a as f64,
-        y: t.b as f64,
-        z: t.c as f64,
+        x: f64::from(t.a),
+        y: f64::from(t.b),
+        z: f64::from(t.c),
     };
     put_vector(numbers, out, i);
     put_box(mesh::boxes::triangle_box(coords, t), out, own_box);
@@ -51,17 +43,14 @@ fn put_triangle(coords: &[f64], t: Triangle, out: &mut [f64], i: usize)
 }
 
 // Writes that of the first triangles, so many, from place 13 on.
-fn put_triangles(coords: &[f64], corners: &[u32], ends: &[u32], triangles: usize, out: &mut [f64])
-    requires accepted { Accepted coords.now corners.now ends.now }
-    requires triangles_in_bounds { triangles ≤ length corners.now - 2 * length ends.now }
-    requires triangles_in_bounds_2 { 13 + 12 * triangles ≤ length out.old }
+fn put_triangles(mesh: &AcceptedMesh, triangles: usize, out: &mut [f64])
+    requires triangles_in_bounds { triangles ≤ length mesh.now.corners - 2 * length mesh.now.ends }
+    requires places_in_bounds { 13 + 12 * triangles ≤ length out.old }
 {
-    let sides = mesh::triangles::sides(ends);
-    let mut t = 0;
-    while t < triangles {
-        let found = mesh::triangles::triangle(corners, ends, sides, t);
+    let coords = mesh.coords;
+    for t in 0..triangles {
+        let found = mesh.triangle(t);
         put_triangle(coords, found, out, 13 + 12 * t);
-        t += 1;
     }
 }
 
@@ -72,30 +61,24 @@ fn put_mesh(coords: &[f64], out: &mut [f64])
     let prepared = mesh::boxes::prepare(coords);
     put_box(mesh::boxes::mesh_box(coords), out, 0);
     put_box(prepared.grown, out, 6);
-    put_number(prepared.eps, out, 12);
+    out[12] = prepared.eps;
 }
 
-// How many of the triangles have room behind place 13.
-fn rows(triangles: usize, places: usize) -> usize
-    requires { 13 ≤ places }
-    ensures { (result ≤ triangles) × (13 + 12 * result ≤ places) }
-{
-    let most = (places - 13) / 12;
-    if triangles < most {
-        return triangles;
+// What `probe_mesh` writes and answers of a mesh: 1 if it is closed, 0 if it is open.
+fn probed(mesh: &Mesh, work: &mut [u64], out: &mut [f64]) -> Result<bool, Refusal> {
+    let mesh = AcceptedMesh::accept(mesh)?;
+    let corners = mesh.corners;
+    if work.len() < corners.len() {
+        return Err(Refusal::Room);
     }
-    most
-}
-
-// 0 if questions 1 to 5 let the mesh pass, else the refusal's code.
-fn refused(coords: &[f64], corners: &[u32], ends: &[u32]) -> u64
-    ensures { result ≡ 0 → Accepted coords.now corners.now ends.now }
-{
-    let asked = mesh_questions::ask_mesh(coords, corners, ends);
-    match asked {
-        Asked::Refused(refusal) => refusal.code(),
-        Asked::Accepted(_) => 0,
+    if out.len() < 13 {
+        return Err(Refusal::Room);
     }
+    put_mesh(mesh.coords, out);
+    // as many triangles as have room behind place 13
+    let triangles = mesh.triangle_count().min((out.len() - 13) / 12);
+    put_triangles(&mesh, triangles, out);
+    Ok(edges::keys_closed(corners, mesh.ends, work))
 }
 
 // Writes the edge keys in ascending order to `work`, and to `out` the mesh's boxes and tolerance and as many triangles as
@@ -108,18 +91,13 @@ pub extern "C" fn probe_mesh(
     work: &mut [u64],
     out: &mut [f64],
 ) -> u64 {
-    let code = refused(coords, corners, ends);
-    if code != 0 {
-        return code;
+    let mesh = Mesh {
+        coords,
+        corners,
+        ends,
+    };
+    match probed(&mesh, work, out) {
+        Ok(closed) => u64::from(closed),
+        Err(refusal) => refusal.code(),
     }
-    if work.len() < corners.len() {
-        return Refusal::Room.code();
-    }
-    if out.len() < 13 {
-        return Refusal::Room.code();
-    }
-    put_mesh(coords, out);
-    let triangles = rows(corners.len() - 2 * ends.len(), out.len());
-    put_triangles(coords, corners, ends, triangles, out);
-    edges::keys_closed(corners, ends, work) as u64
 }

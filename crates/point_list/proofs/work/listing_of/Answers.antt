@@ -6,7 +6,7 @@ use Rattle.refusal.specs.Verdicts.{written}
 use Rattle.listing.specs.Listing.{header}
 use Rattle.listing.specs.ListingLaws.{length_line}
 use Rattle.column.specs.Column.{column_answer}
-use Rattle.column.specs.CallLaws.{listed_refused, listed_bytes}
+use Rattle.refusal.specs.Verdicts.{answered_ok, answered_err}
 use Rattle.point_list.specs.Printed.{answer_or, printed}
 use Rattle.point_list.proofs.work.listing_of.Goals as goal
 
@@ -21,7 +21,7 @@ unfolding printed answer_or column_answer written header
 returns-in-Err c =
     let lists = c.point_list.ensures in
     let enough = le-leb 5130 (length c.args.listing.now) (omega arith) in
-    let refused = listed_refused _ _ _ (sym lists.answer ∙ c.in-Err.is) in
+    let refused = answered_err _ _ _ (sym lists.answer ∙ c.in-Err.is) in
     let same = rw refused at lists.listing in
     let written = rw (c.number.ensures, c.from.ensures, c.place.ensures, same, over_nothing) at c.write_header.ensures in
     record { bytes = rw (enough, refused) (sym (length_line 3 _ _ (omega arith))); listing = rw (enough, refused) written }
@@ -31,5 +31,5 @@ unfolding printed answer_or
 returns-in-Ok c =
     let lists = c.point_list.ensures in
     let enough = le-leb 5130 (length c.args.listing.now) (omega arith) in
-    let found = listed_bytes _ _ _ (sym lists.answer ∙ c.in-Ok.is) in
+    let found = answered_ok _ _ _ (sym lists.answer ∙ c.in-Ok.is) in
     record { bytes = rw (enough, found.0) found.1; listing = rw (enough, found.0) lists.listing }
