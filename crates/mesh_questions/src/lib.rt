@@ -164,14 +164,7 @@ impl<'a> Mesh<'a> {
     }
 
     // Questions 1 to 5: the counts of the mesh, or the refusal.
-    #[tactic(
-        auto,
-        unfolding(
-            crate::specs::Questions::mesh_asked,
-            crate::specs::Questions::ask_mesh,
-            crate::specs::Questions::counts
-        )
-    )]
+    #[tactic(auto, unfolding(crate::specs::Questions::mesh_asked, crate::specs::Questions::ask_mesh, crate::specs::Questions::counts))]
     pub fn ask(&self) -> Result<Counts, Refusal>
         ensures { result ≡ Questions.mesh_asked self.now.coords self.now.corners self.now.ends }
     {
