@@ -100,23 +100,32 @@ fn fan_triangle(corners: &[u32], first: usize, at: usize) -> Triangle
     }
 }
 
-// Triangle `t` of a mesh whose faces are all wide: at once if all faces have three or four corners, at the first guess if
-// all have the same number, and else by a binary search.
+// The face of triangle `t`, and where its corners begin: at once if all faces have three or four corners, at the first
+// guess if all have the same number, and else by a binary search.
+fn place_of(corners: &[u32], ends: &[u32], sides: Sides, t: usize) -> (usize, usize)
+    requires { Fanned corners.now ends.now × (sides ≡ Triangles.sides ends.now) × (t < length corners.now - 2 * length ends.now) }
+    ensures { Triangles.InFace ends.now t result.0 × (Triangles.start_from 0 ends.now result.0 ≡ result.1) }
+{
+    match sides {
+        Sides::Three => (t, 3 * t),
+        Sides::Four => {
+            let f = t / 2;
+            (f, 4 * f)
+        }
+        Sides::Mixed => {
+            let f = face_of(ends, corners.len() - 2 * ends.len(), t);
+            (f, start_of(ends, f))
+        }
+    }
+}
+
+// Triangle `t` of a mesh whose faces are all wide.
 pub fn triangle(corners: &[u32], ends: &[u32], sides: Sides, t: usize) -> Triangle
     requires { Fanned corners.now ends.now × (sides ≡ Triangles.sides ends.now) × (t < length corners.now - 2 * length ends.now) }
     ensures { result ≡ get_or (Triangles.triangles corners.now ends.now) t (Triangles.triangle 0 0 0) }
 {
-    match sides {
-        Sides::Three => fan_triangle(corners, 3 * t, 3 * t),
-        Sides::Four => {
-            let f = t / 2;
-            fan_triangle(corners, 4 * f, t + 2 * f)
-        }
-        Sides::Mixed => {
-            let f = face_of(ends, corners.len() - 2 * ends.len(), t);
-            fan_triangle(corners, start_of(ends, f), t + 2 * f)
-        }
-    }
+    let (f, start) = place_of(corners, ends, sides, t);
+    fan_triangle(corners, start, t + 2 * f)
 }
 
 impl<'a> AcceptedMesh<'a> {
