@@ -143,11 +143,10 @@ pub fn center_on(coords: &[f64], t: Triangle, axis: Axis) -> f64
 pub fn mesh_box(coords: &[f64]) -> BoundingBox
     ensures { result ≡ Boxes.mesh_box coords.now }
 {
-    let mut b = BoundingBox::empty();
-    for v in 0..coords.len() / 3 {
-        b = b.include(Vec3::at(coords, 3 * v));
-    }
-    b
+    let (vertices, _) = coords.as_chunks::<3>();
+    vertices
+        .iter()
+        .fold(BoundingBox::empty(), |b, v| { b.include(Vec3::at(v, 0)) })
 }
 
 // The tolerance of the surface test of a mesh with this box.

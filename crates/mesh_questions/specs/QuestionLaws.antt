@@ -1,5 +1,5 @@
 -- The laws by which a loop over a list's places computes the definitions of the questions.
-use Rattle.std.specs.Prelude.{ℕ, suc, ◌+◌, ◌-◌, ◌*◌, ◌/◌, ◌≤◌, ◌<◌, ◌≡◌, refl, Bool, true, false, cond, ◌&&◌, List, [], ◌∷◌, leb, ltb, Float, length, get_or, take, drop, Option, Some, None, Ok, Err}
+use Rattle.std.specs.Prelude.{ℕ, suc, ◌+◌, ◌-◌, ◌*◌, ◌≤◌, ◌<◌, ◌≡◌, refl, Bool, true, false, cond, ◌&&◌, List, [], ◌∷◌, leb, ltb, Float, length, get_or, take, drop, Option, Some, None, Err}
 use Rattle.std.proofs.Common.{add-one, arith, sym, ◌∙◌, drop-cons, leb-true, eqb-true, ltb-true, ltb-false, lt-ltb, le-ltb}
 use Rattle.math.specs.declared.Vec3.{Vec3}
 use Rattle.math.specs.Vectors as Vectors
@@ -7,6 +7,14 @@ use Rattle.refusal.specs.declared.Refusal.{Refusal}
 use Rattle.refusal.specs.Verdicts.{Verdict, Passed, ask, then, both}
 use Rattle.mesh_questions.specs.Faces.{faces_from}
 use Rattle.mesh_questions.specs.Questions.{ends_fit, all_below, ask_face, ask_faces, ask_finite}
+
+-- one more on both sides
+pub ltb_suc : (a b : ℕ) → ltb (1 + a) (suc b) ≡ ltb a b
+ltb_suc a b = go (ltb a b) refl
+  where
+    go : (t : Bool) → ltb a b ≡ t → ltb (1 + a) (suc b) ≡ t
+    go true e = let h = ltb-true a b e in lt-ltb (1 + a) (suc b) (omega arith)
+    go false e = let h = ltb-false a b e in le-ltb (1 + a) (suc b) (omega arith)
 
 -- from end i on: it does not fall, and so on
 pub ends_fit_next : (before corners : ℕ) (ends : List ℕ) (i : ℕ) → i < length ends → ends_fit before corners (drop i ends) ≡ (leb before (get_or ends i 0) && ends_fit (get_or ends i 0) corners (drop (i + 1) ends))

@@ -119,12 +119,8 @@ pub fn first_not_finite(list: &[f64]) -> Option<usize>
     ensures first { result ≡ QuestionLaws.first_not_finite 0 (points list.now) }
     ensures within { IfSome result (λ i. i < length list.now / 3) }
 {
-    for i in 0..list.len() / 3 {
-        if !Vec3::at(list, 3 * i).is_finite() {
-            return Some(i);
-        }
-    }
-    None
+    let (points, _) = list.as_chunks::<3>();
+    points.iter().position(|p| !Vec3::at(p, 0).is_finite())
 }
 
 // Question 5: is each coordinate finite?

@@ -1,29 +1,35 @@
-use Prim.Native.Nat.{◌*◌, ◌<◌}
-use native.Mathlib.Omega.{arith}
-use mathlib.Core.Path.{◌≡◌, sym, ◌∙◌}
-use mathlib.Core.Bool.{true, false}
-use lib.ListN.{length, drop, length-drop}
-use Rattle.math.specs.Vectors.{at, points_short, is_finite}
-use Rattle.mesh_questions.specs.QuestionLaws.{first_not_finite, first_not_finite_next}
+-- `first_not_finite` meets its contract: three numbers after another are the points of the list (`first_at`).
+use Rattle.std.proofs.Common.{◌≡◌, ℕ, suc, ◌+◌, ◌/◌, Bool, true, false, not, cond, ltb, Option, Some, None, List, [], ◌∷◌, length, refl, sym, ◌∙◌, arith, rules, tests, lt-ltb}
+use Rattle.std.proofs.lemmas.Iterator.{YieldsList-from_slice}
+use Rattle.std.proofs.lemmas.Iterator.Search.{position_from_yields_List}
+use Rattle.std.specs.List.{position_or_len}
+use Rattle.std.specs.Simd.{first_chunks}
+use Rattle.std.specs.Prelude.{Float}
+use Rattle.math.specs.Vectors.{vec, at, points, is_finite}
+use Rattle.mesh_questions.specs.QuestionLaws.{ltb_suc, first_not_finite}
 use Rattle.mesh_questions.proofs.first_not_finite.Goals as goal
 
-pub returns-then-not-is_finite-clause-first : goal.returns-then-not-is_finite-clause-first
-returns-then-not-is_finite-clause-first c =
-    let list = c.args.list.now in
-    let i = c.loop-i.i in
-    let out : is_finite (at list (3 * i)) ≡ false = rw (← c.at.ensures, ← c.is_finite.ensures) (c.if-not-is_finite.true) in
-    sym (first_not_finite_next list i (omega arith) ∙ rw out) ∙ c.loop-i.invariant
+turn : (finite : Bool) (number m n : ℕ) (rest : Option ℕ) → rest ≡ cond (ltb m n) (Some (number + 1 + m)) None → cond finite rest (Some number) ≡ cond (ltb (cond (not (not finite)) (1 + m) 0) (suc n)) (Some (number + cond (not (not finite)) (1 + m) 0)) None
+turn true number m n rest e =
+    let same : number + (1 + m) ≡ number + 1 + m = omega arith in
+    rw (same, ltb_suc m n) e
+turn false number m n rest e =
+    let here : number + 0 ≡ number = omega arith in
+    rw (here, lt-ltb 0 (suc n) (omega arith))
 
-pub loop-i-preserved : goal.loop-i-preserved
-loop-i-preserved c =
-    let list = c.args.list.now in
-    let i = c.loop-i.i in
-    let within : is_finite (at list (3 * i)) ≡ true = rw (← c.at.ensures, ← c.is_finite.ensures) (c.if-not-is_finite.false) in
-    rw within at (sym (first_not_finite_next list i (omega arith))) ∙ c.loop-i.invariant
+first_at : (number : ℕ) (l : List Float) → first_not_finite number (points l) ≡ (let k = position_or_len (λ c. not (is_finite (at c 0))) (first_chunks 3 (length l / 3) l) in cond (ltb k (length l / 3)) (Some (number + k)) None)
+unfolding points first_not_finite at
+first_at number [] = refl
+first_at number (x ∷ []) = refl
+first_at number (x ∷ y ∷ []) = refl
+first_at number (x ∷ y ∷ z ∷ rest) =
+    let more : length (x ∷ y ∷ z ∷ rest) / 3 ≡ suc (length rest / 3) = omega arith in
+    rw more (turn (is_finite (vec x y z)) number _ _ _ (first_at (number + 1) rest))
 
 pub returns-clause-first : goal.returns-clause-first
-unfolding first_not_finite
 returns-clause-first c =
-    let list = c.args.list.now in
-    let short : length (drop (3 * c.loop-i.i) list) < 3 = simp length-drop (omega arith) in
-    rw (points_short _ short) at c.loop-i.invariant
+    let l = c.args.list.now in
+    let found = position_from_yields_List (λ v. not (is_finite (at v 0))) _ _ c.position.result c.position.ensures.ran (YieldsList-from_slice (first_chunks 3 (length l / 3) l) cc) (λ x b q k. search (rules, tests)) in
+    let long = rw c.as_chunks.ensures.front at c.as_chunks.ensures.front_len in
+    let none : (k : ℕ) → 0 + k ≡ k = λ k. omega arith in
+    rw long at found ∙ sym (rw (none (position_or_len (λ v. not (is_finite (at v 0))) (first_chunks 3 (length l / 3) l))) at (first_at 0 l))

@@ -1,25 +1,26 @@
-use Prim.Native.Nat.{◌<◌, ◌*◌}
-use native.Mathlib.Omega.{arith}
-use mathlib.Core.Path.{◌≡◌, sym, ◌∙◌}
-use lib.ListN.{length, drop, length-drop}
-use Rattle.math.specs.Vectors.{points, points_short}
-use Rattle.mesh.specs.Boxes.{include_all, mesh_box, include_all_next}
+-- `mesh_box` meets its contract: three numbers after another are the points of the list, and a fold takes each in.
+use Rattle.std.specs.Prelude.{◌≡◌, ◌/◌, List, [], ◌∷◌, Float, fold, length, map, refl}
+use Rattle.std.proofs.Common.{◌∙◌, rules, tests}
+use Rattle.std.proofs.lemmas.Iterator.{YieldsList-from_slice}
+use Rattle.std.proofs.lemmas.Iterator.Consumers.{fold_from_yields_List}
+use Rattle.std.specs.Simd.{first_chunks}
+use Rattle.math.specs.declared.BoundingBox.{BoundingBox}
+use Rattle.math.specs.Boxes.{include}
+use Rattle.math.specs.Chunks.{points_of_chunks}
+use Rattle.math.specs.Vectors.{at}
+use Rattle.mesh.specs.Boxes.{include_all, mesh_box}
 use Rattle.mesh.proofs.boxes.mesh_box.Goals as goal
 
-pub loop-v-init : goal.loop-v-init
-unfolding mesh_box
-loop-v-init c = rw c.empty-b.ensures
-
-pub loop-v-preserved : goal.loop-v-preserved
-loop-v-preserved c =
-    let next = include_all_next c.loop-v.b c.args.coords.now c.loop-v.v (omega arith) in
-    rw (c.include-b.ensures, c.at.ensures) (sym next ∙ c.loop-v.invariant)
+as_fold : (b : BoundingBox) (l : List (List Float)) → fold (λ b v. include b (at v 0)) b l ≡ include_all b (map (λ v. at v 0) l)
+unfolding include_all
+as_fold b [] = refl
+as_fold b (v ∷ rest) = as_fold (include b (at v 0)) rest
 
 pub returns : goal.returns
-unfolding include_all
+unfolding mesh_box
 returns c =
     let coords = c.args.coords.now in
-    let v = c.loop-v.v in
-    let short : length (drop (3 * v) coords) < 3 = simp length-drop (omega arith) in
-    let end : include_all c.loop-v.b (points (drop (3 * v) coords)) ≡ c.loop-v.b = rw (points_short _ short) in
-    sym end ∙ c.loop-v.invariant
+    let chunks = first_chunks 3 (length coords / 3) coords in
+    fold_from_yields_List _ (λ b v. include b (at v 0)) c.empty.result c.fold.result c.fold.ensures.ran (YieldsList-from_slice chunks cc) (λ b v a q k. search (rules, tests))
+    ∙ as_fold c.empty.result chunks
+    ∙ rw (c.empty.ensures, points_of_chunks (length coords / 3) coords refl)

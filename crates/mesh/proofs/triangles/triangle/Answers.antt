@@ -1,5 +1,4 @@
 -- `triangle` meets its contract: a triangle of a face is its first corner and two that follow one another.
-use Prim.Native.Nat.{◌+◌, ◌*◌}
 use native.Mathlib.Omega.{arith}
 use mathlib.Core.Path.{sym, ◌∙◌}
 use Rattle.mesh.specs.Triangles.{triangle}
