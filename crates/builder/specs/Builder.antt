@@ -10,7 +10,7 @@ use Rattle.math.specs.declared.BoundingBox.{BoundingBox}
 use Rattle.math.specs.Vectors as Vectors
 use Rattle.mesh.specs.Boxes.{triangle_center}
 use Rattle.mesh.specs.Mesh.{Mesh, triangle_count, triangle_at, all_triangles}
-pub use Rattle.mesh.specs.Mesh.{join_all, node_box}
+unfoldable pub use Rattle.mesh.specs.Mesh.{join_all, node_box}
 use Rattle.tree.specs.Tree.{Tree}
 
 -- ---- the split

@@ -2,7 +2,6 @@
 -- and a listing has at most 5,130 bytes.
 use Rattle.std.specs.Prelude.{ℕ, ◌+◌, ◌≤◌, ◌≡◌, refl, Bool, true, false, cond, Option, Result, Ok, Err, List, [], ◌∷◌, leb, length}
 use Rattle.std.proofs.Common.{arith, ap}
-use Rattle.std.specs.Prelude.{Ok, Err}
 use Rattle.refusal.specs.declared.Refusal.TheVariants as Refusals
 use Rattle.refusal.specs.Verdicts.{Passed, Verdict, written}
 use Rattle.refusal.specs.Places.{Below, below_refused}

@@ -1,7 +1,7 @@
 -- What the vote loop and `point_answer` rest on: one over each direction is finite and not zero, the tolerance of the surface test is not below zero, and the
 -- loop's steps are those of the definition.
-use Rattle.std.specs.Prelude.{Option, Some, None, ℕ, zero, suc, ◌+◌, ◌≤◌, ◌<◌, ◌≡◌, refl, true, cond, map, T, Float, get_or, drop}
-use Rattle.std.proofs.Common.{arith, ap}
+use Rattle.std.specs.Prelude.{Some, None, ℕ, zero, suc, ◌+◌, ◌≤◌, ◌<◌, ◌≡◌, refl, true, cond, map, T, Float, get_or, drop}
+use Rattle.std.proofs.Common.{arith}
 use Rattle.std.specs.Float.{nan, inf, fin}
 use Rattle.std.specs.Float.Ieee.{binary64, of_bits, is_nan, div, mul, le, lt, ne, eq}
 use Rattle.std.specs.Float.Ieee.Bits.{is_true}

@@ -1,11 +1,10 @@
 -- What leads from the steps of `contains_list` to its promise: where a question refuses, and where none does.
-use Rattle.std.specs.Prelude.{ℕ, ◌+◌, ◌*◌, ◌/◌, ◌%◌, ◌≤◌, ◌<◌, ◌≡◌, true, ◌&&◌, List, eqb, leb, Float, length, get_or, take, set, replicate}
+use Rattle.std.specs.Prelude.{ℕ, ◌+◌, ◌*◌, ◌/◌, ◌%◌, ◌≤◌, ◌<◌, ◌≡◌, true, ◌&&◌, List, eqb, leb, Float, length, get_or, take, set, replicate, Result, Err}
 use Rattle.std.proofs.Common.{arith, ap, ◌∙◌, take_all, eqb-true, leb-true}
 use Rattle.std.proofs.Math.Path.{refl, sym}
 use Rattle.std.specs.Float.{nan}
 use Rattle.std.proofs.Math.ListN.{length-replicate, get_or-map}
 use Rattle.std.proofs.lemmas.List.{length-map}
-use Rattle.std.specs.Prelude.{Result, Ok, Err}
 use Rattle.keys.specs.Sorting.{sorted}
 use Rattle.lent.specs.Over.{over, over_nothing, over_take, over_over, over_whole, length_over}
 use Rattle.refusal.specs.declared.Refusal.{Refusal}

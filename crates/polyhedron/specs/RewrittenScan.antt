@@ -1,7 +1,7 @@
 -- The plain scan answers a rewriting of an accepted mesh as it answers the mesh (`plain_scan_rewritten`). The vertices are the same in some order, so the boxes of
 -- the two meshes differ at most in the signs of zeros, which no test sees. One is closed if the other is. What the scan finds at a triangle depends on the points
 -- of its corners alone, and the corner points of the triangles are the same in some order; the scan counts what it finds, and the order does not matter.
-use Rattle.std.specs.Prelude.{Option, Some, None, ℕ, ◌+◌, ◌*◌, ◌/◌, ◌%◌, ◌<◌, ◌≡◌, Bool, true, cond, ◌&&◌, List, [], ◌∷◌, map, eqb, ltb, Float, length, get_or}
+use Rattle.std.specs.Prelude.{Some, None, ℕ, ◌+◌, ◌*◌, ◌/◌, ◌%◌, ◌<◌, ◌≡◌, Bool, true, cond, ◌&&◌, List, [], ◌∷◌, map, eqb, ltb, Float, length, get_or}
 use Rattle.std.proofs.Common.{arith, sym, ap, ◌∙◌}
 use Rattle.std.proofs.Math.Path.{ap₂, fun_ext}
 use Rattle.std.proofs.lemmas.Simd.{map-map}

@@ -1,8 +1,7 @@
 -- A number that a C function returns can be read back: an answer is below 1,000,000, and so is the place of a refusal (`Below`).
 -- The laws by which the places of questions asked in their order are bounded.
-use Rattle.std.specs.Prelude.{ℕ, ◌/◌, ◌%◌, ◌<◌, ◌≡◌, refl, Bool, true, false}
+use Rattle.std.specs.Prelude.{ℕ, ◌/◌, ◌%◌, ◌<◌, ◌≡◌, refl, Bool, true, false, Ok, Err}
 use Rattle.std.proofs.Common.{arith, ap}
-use Rattle.std.specs.Prelude.{Ok, Err}
 use Rattle.refusal.specs.declared.Refusal.{Refusal}
 use Rattle.refusal.specs.Numbers.{number, place, code_number, code_place}
 use Rattle.refusal.specs.Verdicts.{Passed, Verdict, ask, then, returned}

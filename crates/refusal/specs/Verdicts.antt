@@ -1,7 +1,6 @@
 -- Questions asked in their order: the first that says no decides. Definitions, and what a passed question says.
-use Rattle.std.specs.Prelude.{ℕ, ◌≡◌, refl, Bool, true, false, cond, ◌&&◌, List, []}
+use Rattle.std.specs.Prelude.{ℕ, ◌≡◌, refl, Bool, true, false, cond, ◌&&◌, List, [], Result, Ok, Err}
 use Rattle.std.proofs.Common.{sym, true≢false}
-use Rattle.std.specs.Prelude.{Result, Ok, Err}
 use Rattle.refusal.specs.declared.Refusal.{Refusal}
 use Rattle.refusal.specs.Numbers.{code}
 

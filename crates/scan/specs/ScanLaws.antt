@@ -1,5 +1,5 @@
 -- Laws of the scan's lists: what a test and a vote say of a list does not depend on its order, and can be found part by part.
-use Rattle.std.specs.Prelude.{Option, Some, None, ℕ, suc, ◌+◌, ◌%◌, ◌≡◌, Bool, ◌||◌, eqb}
+use Rattle.std.specs.Prelude.{Some, None, ℕ, suc, ◌+◌, ◌%◌, ◌≡◌, Bool, ◌||◌, eqb}
 use native.Mathlib.Omega.{arith}
 use Rattle.std.proofs.Math.Path.{refl, sym}
 use Rattle.std.proofs.Common.{◌∙◌}

@@ -1,4 +1,4 @@
-use mathlib.Core.Path.{◌≡◌, sym, ap, ◌∙◌}
+use mathlib.Core.Path.{sym, ap, ◌∙◌}
 use Rattle.scan.specs.ScanLaws.{cast_over, cast_over_append, cast_over_none, vote_over_cast}
 use Rattle.walks.specs.Walks.{walk_vote, ray_walk}
 use Rattle.walks.specs.WalkLaws.{vote_up_to}

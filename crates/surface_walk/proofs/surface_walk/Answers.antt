@@ -1,5 +1,4 @@
-use native.Mathlib.Omega.{arith}
-use mathlib.Core.Path.{◌≡◌, sym, ap, ◌∙◌}
+use mathlib.Core.Path.{sym, ap, ◌∙◌}
 use Rattle.scan.specs.Scan.{some}
 use Rattle.scan.specs.ScanLaws.{some_nothing, some_append}
 use Rattle.walks.specs.Walks.{walk_touches, surface_walk}

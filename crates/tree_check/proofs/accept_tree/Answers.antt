@@ -1,14 +1,14 @@
 -- `accept_tree` meets its contract: a refusal by 1 to 6 comes before the first write (`refused`), and else `ask_tree` promises the rest
 -- (`asked`).
 use Prim.Native.Nat.{ℕ}
-use mathlib.Core.Path.{◌≡◌, sym, ◌∙◌}
+use mathlib.Core.Path.{◌≡◌, sym}
 use mathlib.Core.List.{List}
 use lib.ListN.{length}
-use Rattle.std.specs.Prelude.{Result, Ok, Err}
+use Rattle.std.specs.Prelude.{Err}
 use Rattle.std.proofs.lemmas.Result.{err_from_is_err_and}
 use Rattle.lent.specs.Over.{over}
 use Rattle.refusal.specs.declared.Refusal.{Refusal}
-use Rattle.refusal.specs.Verdicts.{Passed, Verdict, answered, written, answered_ok, answered_err, ask_passed, then_passed}
+use Rattle.refusal.specs.Verdicts.{Passed, Verdict, answered, written, answered_ok, answered_err, ask_passed}
 use Rattle.mesh.specs.Mesh.{Mesh}
 use Rattle.tree.specs.Tree.{Tree}
 use Rattle.tree.specs.TreeTheorem.{sound}

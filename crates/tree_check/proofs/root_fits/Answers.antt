@@ -1,11 +1,9 @@
 -- `root_fits` meets its contract: its tests are those of the definition, with the number of triangles taken from the lengths.
 use native.Mathlib.Omega.{arith}
-use Prim.Native.Nat.{◌-◌, ◌*◌}
-use mathlib.Core.Path.{◌≡◌, sym, ap, ◌∙◌}
-use lib.ListN.{length}
+use mathlib.Core.Path.{◌≡◌}
 use borrow.Author.Tests.{eq-eqb, ne_eqb}
 use Rattle.mesh.specs.Mesh.{triangle_count}
-use Rattle.tree.specs.Tree.{Tree, node_count}
+use Rattle.tree.specs.Tree.{node_count}
 use Rattle.tree.specs.TreeTest.{ends_at, root_test, triangle_count_accepted}
 use Rattle.tree_check.proofs.root_fits.Goals as goal
 

@@ -1,7 +1,7 @@
 -- `from_triangles` meets its contract: a refusal comes before the first write (`refused`), and else `weld_all` promises what is written
 -- (`passed`).
 use Prim.Native.Nat.{ℕ}
-use mathlib.Core.Path.{◌≡◌, sym, ◌∙◌}
+use mathlib.Core.Path.{◌≡◌, sym}
 use mathlib.Core.List.{List}
 use lib.Ieee.{Float}
 use Rattle.std.specs.Prelude.{Ok, Err}

@@ -2,7 +2,7 @@
 -- what it leaves in the buffers.
 use mathlib.Core.Path.{◌≡◌, sym, ◌∙◌}
 use borrow.Author.Tests.{lt-leb}
-use Rattle.std.specs.Prelude.{Ok, Err}
+use Rattle.std.specs.Prelude.{Err}
 use Rattle.refusal.specs.declared.Refusal.TheVariants.{Room}
 use Rattle.c_meshes.specs.Welding.{verdict}
 use Rattle.c_meshes.proofs.Welding.{refused, welding_refused, welding_passed}

@@ -1,5 +1,4 @@
 -- `Prepared::new` meets its contract: the corners of an accepted mesh are below 65,536.
-use mathlib.Core.Path.{ap}
 use Rattle.edges.specs.EdgeLaws.{accepted_below}
 use Rattle.points.proofs.Prepared.new.Goals as goal
 

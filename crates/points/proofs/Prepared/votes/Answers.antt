@@ -1,10 +1,8 @@
 use Prim.Native.Nat.{◌<◌}
 use native.Mathlib.Omega.{arith}
-use mathlib.Core.Path.{◌≡◌, refl, sym, ap, ◌∙◌}
-use lib.ListN.{get_or}
+use mathlib.Core.Path.{◌≡◌, refl, sym, ◌∙◌}
 use Rattle.scan.specs.Scan as Scan
 use Rattle.scan.specs.Scan.{vote, directions, votes_from}
-use Rattle.ray_walk.specs.declared.Heading.{Heading}
 use Rattle.ray_walk.specs.Casts.{direction, heading}
 use Rattle.walks.specs.WalkScan.{walk_vote_scan}
 use Rattle.points.specs.Votes.{heading_at, inverse_factors, votes_from_next, counted_sum}

@@ -1,5 +1,5 @@
 -- `contains_list` meets its contract: the calls promise the verdicts, the work places and the answers, and `ListLaws` leads from there to `Contains`.
-use mathlib.Core.Path.{sym, ◌∙◌}
+use mathlib.Core.Path.{sym}
 use Rattle.std.proofs.lemmas.Result.{err_from_is_err_and}
 use Rattle.refusal.specs.Verdicts.{answered_ok, answered_err}
 use Rattle.polyhedron.specs.ListLaws.{checks_of, refused_tree, refused_list, room_left, answerable, answered}
