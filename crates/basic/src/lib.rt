@@ -55,7 +55,7 @@ pub fn inside_multi_box(boxes: &[f64], p: Vec3) -> bool
 pub fn inside_sphere(center: Vec3, radius: f64, p: Vec3) -> bool
     ensures { result ≡ Round.inside_sphere center radius p }
 {
-    p.sub(center).norm() <= radius + geom::tol(radius, 0.0)
+    (p - center).norm() <= radius + geom::tol(radius, 0.0)
 }
 
 // Whether the distance `d` is within half the width of the radius; the sign of the width is ignored.
@@ -72,7 +72,7 @@ fn in_shell(d: f64, radius: f64, width: f64) -> bool
 pub fn inside_spherical_shell(center: Vec3, radius: f64, width: f64, p: Vec3) -> bool
     ensures { result ≡ Round.inside_spherical_shell center radius width p }
 {
-    in_shell(p.sub(center).norm(), radius, width)
+    in_shell((p - center).norm(), radius, width)
 }
 
 // Where a point lies along an axis: `t` is 0 at the start and 1 at the stop; `d` is the distance from the
@@ -89,15 +89,15 @@ pub struct Along {
 fn axial(a: Vec3, b: Vec3, p: Vec3) -> Option<Along>
     ensures { result ≡ Round.axial a b p }
 {
-    let axis = b.sub(a);
+    let axis = b - a;
     let l2 = axis.norm_sq();
     if l2 == 0.0 {
         return None;
     }
-    let t = p.sub(a).dot(axis) / l2;
+    let t = (p - a).dot(axis) / l2;
     Some(Along {
         t,
-        d: p.sub(a.add(axis.mul(t))).norm(),
+        d: (p - (a + axis * t)).norm(),
         len: sqrt::root(l2),
     })
 }

@@ -12,11 +12,11 @@ fn polyline_dist(points: &[f64], p: Vec3) -> f64
 {
     let (points, _) = points.as_chunks::<3>();
     if points.len() == 1 {
-        return p.sub(Vec3::at(&points[0], 0)).norm();
+        return (p - Vec3::from(points[0])).norm();
     }
     let mut least = f64::INFINITY;
     for ends in points.windows(2) {
-        let d = geom::dist_point_segment(p, Vec3::at(&ends[0], 0), Vec3::at(&ends[1], 0));
+        let d = geom::dist_point_segment(p, Vec3::from(ends[0]), Vec3::from(ends[1]));
         least = float::min(least, d);
     }
     least

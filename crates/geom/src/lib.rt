@@ -101,9 +101,9 @@ pub fn dist_point_segment_2d(p: Point2, a: Point2, b: Point2) -> f64
 pub fn dist_point_segment(p: Vec3, a: Vec3, b: Vec3) -> f64
     ensures { result ≡ Segments.dist_point_segment p a b }
 {
-    let d = b.sub(a);
-    let t = parameter(p.sub(a).dot(d), d.norm_sq());
-    p.sub(a.add(d.mul(t))).norm()
+    let d = b - a;
+    let t = parameter((p - a).dot(d), d.norm_sq());
+    (p - (a + d * t)).norm()
 }
 
 // The largest magnitude in the list, 0 if it is empty.

@@ -6,6 +6,8 @@ ghost use Rattle.std.specs.Prelude.{◌≡◌, ◌+◌, ◌<◌, length};
 ghost use Rattle.math.specs.Vectors as Vectors;
 ghost use Rattle.math.specs.Boxes as Boxes;
 
+use std::ops::{Add, Mul, Sub};
+
 // A point or a direction.
 #[derive(Clone, Copy)]
 pub struct Vec3 {
@@ -43,39 +45,6 @@ impl Vec3 {
             0 => self.x,
             1 => self.y,
             _ => self.z,
-        }
-    }
-
-    #[tactic(auto, unfolding(crate::specs::Vectors::add))]
-    pub fn add(self, o: Vec3) -> Vec3
-        ensures { result ≡ Vectors.add self o }
-    {
-        Vec3 {
-            x: self.x + o.x,
-            y: self.y + o.y,
-            z: self.z + o.z,
-        }
-    }
-
-    #[tactic(auto, unfolding(crate::specs::Vectors::sub))]
-    pub fn sub(self, o: Vec3) -> Vec3
-        ensures { result ≡ Vectors.sub self o }
-    {
-        Vec3 {
-            x: self.x - o.x,
-            y: self.y - o.y,
-            z: self.z - o.z,
-        }
-    }
-
-    #[tactic(auto, unfolding(crate::specs::Vectors::mul))]
-    pub fn mul(self, s: f64) -> Vec3
-        ensures { result ≡ Vectors.mul self s }
-    {
-        Vec3 {
-            x: self.x * s,
-            y: self.y * s,
-            z: self.z * s,
         }
     }
 
@@ -138,6 +107,62 @@ impl Vec3 {
         ensures { result ≡ Vectors.is_finite self }
     {
         float::is_finite(self.x) & float::is_finite(self.y) & float::is_finite(self.z)
+    }
+}
+
+// The vector of a chunk of a list.
+impl From<[f64; 3]> for Vec3 {
+    ghost from_gives = { λ p r. r ≡ Vectors.at p 0 };
+
+    #[tactic(auto, unfolding(crate::specs::Vectors::at))]
+    fn from(p: [f64; 3]) -> Vec3 {
+        let [x, y, z] = p;
+        Vec3 { x, y, z }
+    }
+}
+
+impl Add for Vec3 {
+    type Output = Vec3;
+
+    ghost add_gives = { λ a b r. r ≡ Vectors.add a b };
+
+    #[tactic(auto, unfolding(crate::specs::Vectors::add))]
+    fn add(self, o: Vec3) -> Vec3 {
+        Vec3 {
+            x: self.x + o.x,
+            y: self.y + o.y,
+            z: self.z + o.z,
+        }
+    }
+}
+
+impl Sub for Vec3 {
+    type Output = Vec3;
+
+    ghost sub_gives = { λ a b r. r ≡ Vectors.sub a b };
+
+    #[tactic(auto, unfolding(crate::specs::Vectors::sub))]
+    fn sub(self, o: Vec3) -> Vec3 {
+        Vec3 {
+            x: self.x - o.x,
+            y: self.y - o.y,
+            z: self.z - o.z,
+        }
+    }
+}
+
+impl Mul<f64> for Vec3 {
+    type Output = Vec3;
+
+    ghost mul_gives = { λ a b r. r ≡ Vectors.mul a b };
+
+    #[tactic(auto, unfolding(crate::specs::Vectors::mul))]
+    fn mul(self, s: f64) -> Vec3 {
+        Vec3 {
+            x: self.x * s,
+            y: self.y * s,
+            z: self.z * s,
+        }
     }
 }
 
@@ -230,8 +255,8 @@ impl BoundingBox {
     {
         let e = Vec3::new(d, d, d);
         BoundingBox {
-            min: self.min.sub(e),
-            max: self.max.add(e),
+            min: self.min - e,
+            max: self.max + e,
         }
     }
 
@@ -248,13 +273,13 @@ impl BoundingBox {
     pub fn size(self) -> Vec3
         ensures { result ≡ Boxes.size self }
     {
-        self.max.sub(self.min)
+        self.max - self.min
     }
 
     #[tactic(auto, unfolding(crate::specs::Boxes::center))]
     pub fn center(self) -> Vec3
         ensures { result ≡ Boxes.center self }
     {
-        self.min.add(self.max).mul(0.5)
+        (self.min + self.max) * 0.5
     }
 }

@@ -33,7 +33,7 @@ pub returns-then-points-eq1 : goal.returns-then-points-eq1
 returns-then-points-eq1 c =
     let list = c.args.points.now in
     let one : length list / 3 ≡ 1 = omega (arith, c.as_chunks.ensures.front_len) in
-    rw (polyline_dist_point list c.args.p one, c.norm.ensures, c.sub.ensures, c.at.ensures, c.as_chunks.ensures.front, first_point (length list / 3) list refl (omega arith))
+    rw (polyline_dist_point list c.args.p one, c.norm.ensures, c.sub.ensures, c.from.ensures, c.as_chunks.ensures.front, first_point (length list / 3) list refl (omega arith))
 
 pub loop-ends-init : goal.loop-ends-init
 unfolding of_bits
@@ -54,7 +54,7 @@ loop-ends-preserved c =
     let next = next_segment c.args.p c.loop-ends.least rest c.in-Some.ends.now (omega (arith, s)) (rw two at s.1.1) in
     record {
       two = s.0 ∙ two;
-      left = rw (s.1.2, c.min-least.ensures, c.dist_point_segment-d.ensures, c.at-in-loop-ends.ensures, c.at-in-loop-ends-2.ensures) (sym next ∙ c.loop-ends.invariant.left);
+      left = rw (s.1.2, c.min-least.ensures, c.dist_point_segment-d.ensures, c.from-in-loop-ends.ensures, c.from-in-loop-ends-2.ensures) (sym next ∙ c.loop-ends.invariant.left);
     }
 
 pub returns : goal.returns
