@@ -30,6 +30,7 @@ fn corrected(x: f64, s: f64, y: f64) -> f64
 
 // A guess at the root of 1.digits, or of twice that where `odd` is odd. It starts from 1 / root,
 // guessed by halving the exponent in the bit pattern. How close it comes is not promised.
+// The two numbers are no struct: `nearest_root` alone passes them on, and the driver's C form is called with them.
 pub fn guess(digits: u64, odd: u64) -> f64
     ensures { result ≡ Guess.guess digits odd }
 {
@@ -116,8 +117,5 @@ pub fn nearest_root(digits: u64, odd: u64) -> u64
     ensures { result ≡ nearest_root ((2 ^ 52 + digits % 2 ^ 52) * 2 ^ (52 + odd % 2)) }
 {
     let w = (0x10_0000_0000_0000 + digits % 0x10_0000_0000_0000) * (1 + odd % 2);
-    match settle_guess(guess(digits, odd), w) {
-        Some(q) => q,
-        None => by_digits(w),
-    }
+    settle_guess(guess(digits, odd), w).unwrap_or_else(|| by_digits(w))
 }
