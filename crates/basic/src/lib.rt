@@ -116,10 +116,9 @@ fn between_ends(t: f64, len: f64) -> bool
 pub fn inside_cylinder(start: Vec3, stop: Vec3, radius: f64, p: Vec3) -> bool
     ensures { result ≡ Round.inside_cylinder start stop radius p }
 {
-    match axial(start, stop, p) {
-        Some(Along { t, d, len }) => between_ends(t, len) & (d <= radius + geom::tol(radius, 0.0)),
-        None => false,
-    }
+    axial(start, stop, p).is_some_and(|at| {
+        between_ends(at.t, at.len) & (at.d <= radius + geom::tol(radius, 0.0))
+    })
 }
 
 // Whether `p` lies in the tube around the axis from `start` to `stop`; its ends are open.
@@ -127,8 +126,6 @@ pub fn inside_cylinder(start: Vec3, stop: Vec3, radius: f64, p: Vec3) -> bool
 pub fn inside_cylindrical_shell(start: Vec3, stop: Vec3, radius: f64, width: f64, p: Vec3) -> bool
     ensures { result ≡ Round.inside_cylindrical_shell start stop radius width p }
 {
-    match axial(start, stop, p) {
-        Some(Along { t, d, len }) => between_ends(t, len) & in_shell(d, radius, width),
-        None => false,
-    }
+    axial(start, stop, p).is_some_and(|at| between_ends(at.t, at.len)
+        & in_shell(at.d, radius, width))
 }
