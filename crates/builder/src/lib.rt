@@ -1,2 +1,23 @@
-// Document 01's builder rule ('Builder'): the tree that a mesh gets, in specs/Builder.antt. There is no code here.
+// Document 01's builder rule ('Builder'): the tree that a mesh gets, in specs/Builder.antt. The code is how one step of the
+// builder tells the next how a node's items are split.
 #![tactic(auto)]
+
+ghost use Rattle.std.specs.Prelude.{◌<◌};
+
+use mesh::Axis;
+
+// A rank by which items are parted: those whose rank is at most this come first. It is below the greatest rank, so that
+// some rank is above it.
+#[derive(Clone, Copy)]
+pub struct Pivot {
+    pub rank: u64,
+    pub ghost below_top: { rank < 18446744073709551615 },
+}
+
+// The axis on which a node's items are split, and a rank near their middle on it (a guess: nothing else is
+// promised of it).
+#[derive(Clone, Copy)]
+pub struct Split {
+    pub axis: Axis,
+    pub pivot: Pivot,
+}

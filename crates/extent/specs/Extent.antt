@@ -13,6 +13,15 @@ use Rattle.math.specs.Vectors.{vec, component}
 use Rattle.math.specs.Boxes.{box}
 use Rattle.mesh.specs.Mesh.{Mesh, own_box}
 use Rattle.builder.specs.Builder.{center_of}
+use Rattle.extent.specs.declared.End.{End}
+use Rattle.extent.specs.declared.End.TheVariants.{Lower, Upper}
+
+-- ---- the ends of a box
+
+-- whether it is the upper one
+abbrev pub is_upper : End → Bool
+is_upper Lower = false
+is_upper Upper = true
 
 -- ---- the centres
 

@@ -11,30 +11,55 @@ ghost use Rattle.builder.specs.Builder as Builder;
 ghost use Rattle.extent.specs.Extent as Extents;
 ghost use Rattle.extent.specs.ExtentLaws as ExtentLaws;
 
+use builder::{Pivot, Split};
 use math::{BoundingBox, Vec3};
 use mesh::{AcceptedMesh, Axis};
 
-// The smaller of two, or the larger.
-#[tactic(auto, unfolding(crate::specs::Extent::pick))]
-fn pick(upper: bool, a: f64, b: f64) -> f64
-    ensures { result ≡ Extents.pick upper a b }
-{
-    if upper {
-        float::max(a, b)
-    } else {
-        float::min(a, b)
-    }
+// Which end of a box on an axis.
+#[derive(Clone, Copy)]
+enum End {
+    Lower,
+    Upper,
 }
 
-// An end of a box around centres, and one centre more; one that is not finite does not count.
-#[tactic(auto, unfolding(crate::specs::Extent::end_with))]
-fn end_with(upper: bool, end: f64, c: f64) -> f64
-    ensures { result ≡ Extents.end_with upper end c }
-{
-    if float::is_finite(c) {
-        pick(upper, end, c)
-    } else {
-        end
+impl End {
+    // The smaller of two at the lower end, the larger at the upper one.
+    #[tactic(auto, unfolding(crate::specs::Extent::pick))]
+    fn pick(self, a: f64, b: f64) -> f64
+        ensures { result ≡ Extents.pick (Extents.is_upper self) a b }
+    {
+        match self {
+            End::Lower => float::min(a, b),
+            End::Upper => float::max(a, b),
+        }
+    }
+
+    // This edge `v` of a box around centres, and one centre more; one that is not finite does not count.
+    #[tactic(auto, unfolding(crate::specs::Extent::end_with))]
+    fn with(self, v: f64, c: f64) -> f64
+        ensures { result ≡ Extents.end_with (Extents.is_upper self) v c }
+    {
+        if float::is_finite(c) {
+            self.pick(v, c)
+        } else {
+            v
+        }
+    }
+
+    // This edge of a box on an axis.
+    #[tactic(auto, unfolding(crate::specs::Extent::edge, math::specs::Vectors::component))]
+    fn edge(self, axis: Axis, b: BoundingBox) -> f64
+        ensures { result ≡ Extents.edge (Extents.is_upper self) (Axes.place axis) b }
+    {
+        let corner = match self {
+            End::Lower => b.min,
+            End::Upper => b.max,
+        };
+        match axis {
+            Axis::X => corner.x,
+            Axis::Y => corner.y,
+            Axis::Z => corner.z,
+        }
     }
 }
 
@@ -45,14 +70,14 @@ fn with_center(b: BoundingBox, c: Vec3) -> BoundingBox
 {
     BoundingBox {
         min: Vec3 {
-            x: end_with(false, b.min.x, c.x),
-            y: end_with(false, b.min.y, c.y),
-            z: end_with(false, b.min.z, c.z),
+            x: End::Lower.with(b.min.x, c.x),
+            y: End::Lower.with(b.min.y, c.y),
+            z: End::Lower.with(b.min.z, c.z),
         },
         max: Vec3 {
-            x: end_with(true, b.max.x, c.x),
-            y: end_with(true, b.max.y, c.y),
-            z: end_with(true, b.max.z, c.z),
+            x: End::Upper.with(b.max.x, c.x),
+            y: End::Upper.with(b.max.y, c.y),
+            z: End::Upper.with(b.max.z, c.z),
         },
     }
 }
@@ -83,42 +108,21 @@ fn widest_axis(size: Vec3) -> Axis
     if x <= z { Axis::Z } else { Axis::X }
 }
 
-// The upper edge of a box on an axis, or the lower one.
-#[tactic(auto, unfolding(crate::specs::Extent::edge, math::specs::Vectors::component))]
-fn edge(upper: bool, axis: Axis, b: BoundingBox) -> f64
-    ensures { result ≡ Extents.edge upper (Axes.place axis) b }
-{
-    let end = if upper { b.max } else { b.min };
-    match axis {
-        Axis::X => end.x,
-        Axis::Y => end.y,
-        Axis::Z => end.z,
-    }
-}
-
 // The rank half way between the lowest and the highest centre on an axis; 0 where it would be that of a
 // NaN.
-fn middle_rank(centers: BoundingBox, axis: Axis) -> u64
-    ensures { result < 18446744073709551615 }
-{
-    let lo = edge(false, axis, centers);
-    let hi = edge(true, axis, centers);
+fn middle_rank(centers: BoundingBox, axis: Axis) -> Pivot {
+    let lo = End::Lower.edge(axis, centers);
+    let hi = End::Upper.edge(axis, centers);
     let key = float::order_key((lo + hi) * 0.5);
-    if key < u64::MAX { key } else { 0 }
-}
-
-// The axis on which a node's items are split, and a rank near their middle on it (a guess: nothing is
-// promised of it).
-#[derive(Clone, Copy)]
-pub struct Split {
-    pub axis: Axis,
-    pub pivot: u64,
+    Pivot {
+        rank: if key < u64::MAX { key } else { 0 },
+    }
 }
 
 // How a node's items are split, in whatever order they stand.
 pub fn split_of(mesh: &AcceptedMesh, items: &[u32]) -> Split
     requires { Items.Items mesh.now items.now }
-    ensures { (Axes.place result.axis ≡ Builder.split_axis mesh.now (sorted items.now)) × (result.pivot < 18446744073709551615) }
+    ensures { Axes.place result.axis ≡ Builder.split_axis mesh.now (sorted items.now) }
 {
     let centers = centers_of(mesh, items);
     let axis = widest_axis(centers.size());
@@ -140,17 +144,17 @@ fn earlier(found: Option<u32>, t: u32, e: f64) -> Option<u32>
     }
 }
 
-// The upper edge on an axis, or the lower one, of the lowest-numbered item in whose own box it is zero; 0 if there is none.
-fn zero_edge(mesh: &AcceptedMesh, items: &[u32], upper: bool, axis: Axis) -> f64
+// This edge on an axis of the lowest-numbered item in whose own box it is zero; 0 if there is none.
+fn zero_edge(mesh: &AcceptedMesh, items: &[u32], end: End, axis: Axis) -> f64
     requires { Items.Items mesh.now items.now }
-    ensures { result ≡ Extents.zero_edge (Extents.own_edge mesh.now upper (Axes.place axis)) (sorted items.now) }
+    ensures { result ≡ Extents.zero_edge (Extents.own_edge mesh.now (Extents.is_upper end) (Axes.place axis)) (sorted items.now) }
 {
     let mut found = None;
     for t in items {
-        found = earlier(found, *t, edge(upper, axis, mesh.own_box(*t)));
+        found = earlier(found, *t, end.edge(axis, mesh.own_box(*t)));
     }
     match found {
-        Some(t) => edge(upper, axis, mesh.own_box(t)),
+        Some(t) => end.edge(axis, mesh.own_box(t)),
         None => 0.0,
     }
 }
@@ -166,26 +170,26 @@ fn unlike(a: f64, b: f64) -> bool
 // An edge of the box of items from those of their halves: only of zeros of unlike sign it depends on the
 // items.
 #[tactic(auto, unfolding(crate::specs::Extent::joined_edge))]
-fn joined_edge(mesh: &AcceptedMesh, items: &[u32], upper: bool, axis: Axis, a: f64, b: f64) -> f64
+fn joined_edge(mesh: &AcceptedMesh, items: &[u32], end: End, axis: Axis, a: f64, b: f64) -> f64
     requires { Items.Items mesh.now items.now }
-    ensures { result ≡ Extents.joined_edge mesh.now items.now upper (Axes.place axis) a b }
+    ensures { result ≡ Extents.joined_edge mesh.now items.now (Extents.is_upper end) (Axes.place axis) a b }
 {
     if unlike(a, b) {
-        return zero_edge(mesh, items, upper, axis);
+        return zero_edge(mesh, items, end, axis);
     }
-    pick(upper, a, b)
+    end.pick(a, b)
 }
 
-// The three upper edges, or the lower ones.
+// The three edges at this end.
 #[tactic(auto, unfolding(crate::specs::Extent::joined_end))]
-fn joined_end(mesh: &AcceptedMesh, items: &[u32], upper: bool, a: Vec3, b: Vec3) -> Vec3
+fn joined_end(mesh: &AcceptedMesh, items: &[u32], end: End, a: Vec3, b: Vec3) -> Vec3
     requires { Items.Items mesh.now items.now }
-    ensures { result ≡ Extents.joined_end mesh.now items.now upper a b }
+    ensures { result ≡ Extents.joined_end mesh.now items.now (Extents.is_upper end) a b }
 {
     Vec3 {
-        x: joined_edge(mesh, items, upper, Axis::X, a.x, b.x),
-        y: joined_edge(mesh, items, upper, Axis::Y, a.y, b.y),
-        z: joined_edge(mesh, items, upper, Axis::Z, a.z, b.z),
+        x: joined_edge(mesh, items, end, Axis::X, a.x, b.x),
+        y: joined_edge(mesh, items, end, Axis::Y, a.y, b.y),
+        z: joined_edge(mesh, items, end, Axis::Z, a.z, b.z),
     }
 }
 
@@ -207,7 +211,7 @@ pub fn inner_box(
 {
     lent_floats(mesh.coords);
     BoundingBox {
-        min: joined_end(mesh, items, false, left.min, right.min),
-        max: joined_end(mesh, items, true, left.max, right.max),
+        min: joined_end(mesh, items, End::Lower, left.min, right.min),
+        max: joined_end(mesh, items, End::Upper, left.max, right.max),
     }
 }

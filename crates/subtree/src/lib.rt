@@ -38,8 +38,7 @@ fn put_node(nodes: &mut [u32], n: usize, start: usize, count: usize)
     requires { (2 * n + 2 ≤ length nodes.old) × (start < 4294967296) × (count < 4294967296) }
     ensures { nodes.new ≡ set (set nodes.old (2 * n) start) (2 * n + 1) count }
 {
-    nodes[2 * n] = start as u32;
-    nodes[2 * n + 1] = count as u32;
+    nodes[2 * n..2 * n + 2].copy_from_slice(&[start as u32, count as u32]);
 }
 
 // Writes a leaf as node `n`, its items sorted, which begin at place `i`.
@@ -79,7 +78,7 @@ pub fn build_node(
     }
     let half = items.len() / 2;
     let split = split_of(mesh, items);
-    halve(mesh, split.axis, split.pivot, items);
+    halve(mesh, split, items);
     let (front, back) = items.split_at_mut(half);
     let left = build_node(mesh, boxes, nodes, front, n + 1, i);
     let right = build_node(mesh, boxes, nodes, back, left.end, i + half);

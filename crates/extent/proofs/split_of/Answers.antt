@@ -3,5 +3,4 @@ use Rattle.extent.specs.ExtentLaws.{centers_axis}
 use Rattle.extent.proofs.split_of.Goals as goal
 
 pub returns : goal.returns
-returns c =
-    (rw (c.widest_axis-axis.ensures, c.size.ensures, c.centers_of-centers.ensures) (centers_axis c.args.mesh.now c.args.items.now), c.middle_rank.ensures)
+returns c = rw (c.widest_axis-axis.ensures, c.size.ensures, c.centers_of-centers.ensures) (centers_axis c.args.mesh.now c.args.items.now)

@@ -3,8 +3,8 @@
 use Rattle.std.proofs.Common.{◌≡◌, take}
 use Rattle.keys.specs.Sorting.{sorted}
 use Rattle.mesh.specs.Axes.{place}
-use Rattle.extent.specs.Extent.{own_edge, first_zero}
+use Rattle.extent.specs.Extent.{is_upper, own_edge, first_zero}
 use Rattle.extent.proofs.zero_edge.Given as goal
 
 abbrev pub invariant-loop-t : goal.invariant-loop-t
-invariant-loop-t l = l.found ≡ first_zero (own_edge l.mesh l.upper (place l.axis)) (sorted (take l.t-index l.items))
+invariant-loop-t l = l.found ≡ first_zero (own_edge l.mesh (is_upper l.end) (place l.axis)) (sorted (take l.t-index l.items))

@@ -8,7 +8,7 @@ use Rattle.subtree.proofs.+build_node.Goals.{After-halve, After-build_node-left,
 
 -- the items after the median split
 halved : (t : ℕ) (c : After-halve t) → Halved c.args.mesh.now (place c.split_of-split.result.axis) (length c.args.boxes.now) (length c.args.nodes.now) c.args.items.now c.halve.new.items c.args.n c.args.i
-halved t c = record { room = c.requires; many = c.if-items-le4.false; axis_is = c.split_of-split.ensures.0; split = c.halve.ensures.halves; small = c.halve.ensures.small }
+halved t c = record { room = c.requires; many = c.if-items-le4.false; axis_is = c.split_of-split.ensures; split = c.halve.ensures.halves; small = c.halve.ensures.small }
 
 -- what is written of the left half, and of the right half
 left : (t : ℕ) (c : After-build_node-left t) → Writes c.args.mesh.now c.args.boxes.now c.args.nodes.now (take (length c.args.items.now / 2) c.halve.new.items) (c.args.n + 1) c.args.i c.build_node-left.result c.build_node-left.new.boxes c.build_node-left.new.nodes c.build_node-left.new.items
