@@ -1,56 +1,39 @@
 // The mesh layer's inner functions in one call, which asks questions 1 to 5 first, so that it has no requirement. It is
 // proved safe, and the driver compares what it writes.
-ghost use Rattle.std.specs.Prelude.{◌+◌, ◌-◌, ◌*◌, ◌≤◌, ◌<◌, length};
-ghost use Rattle.mesh.specs.Boxes.{Corners};
+ghost use Rattle.std.specs.Prelude.{◌-◌, ◌*◌, ◌≡◌, ◌≤◌, ◌<◌, length};
 
-use math::{BoundingBox, Vec3};
-use mesh::{AcceptedMesh, Triangle};
+use math::BoundingBox;
+use mesh::AcceptedMesh;
 use mesh_questions::Mesh;
 use refusal::Refusal;
 
-// Writes a vector from place `i` on.
-fn put_vector(v: Vec3, out: &mut [f64], i: usize)
-    requires { i + 2 < length out.old }
-{
-    out[i] = v.x;
-    out[i + 1] = v.y;
-    out[i + 2] = v.z;
+// The edges of a box.
+fn edges_of(b: BoundingBox) -> [f64; 6] {
+    [b.min.x, b.min.y, b.min.z, b.max.x, b.max.y, b.max.z]
 }
 
-// Writes a box from place `i` on.
-fn put_box(b: BoundingBox, out: &mut [f64], i: usize)
-    requires { i + 5 < length out.old }
+// Writes the vertex numbers of a triangle, its own box and its centre.
+fn put_triangle(mesh: &AcceptedMesh, t: usize, out: &mut [f64])
+    requires triangle { t < length mesh.now.corners - 2 * length mesh.now.ends }
+    requires places { length out.old ≡ 12 }
 {
-    put_vector(b.min, out, i);
-    put_vector(b.max, out, i + 3);
+    let corners = mesh.triangle(t);
+    let own_box = mesh::boxes::triangle_box(mesh.coords, corners);
+    let center = mesh::boxes::triangle_center(mesh.coords, corners);
+    out[..3].copy_from_slice(&[
+        f64::from(corners.a),
+        f64::from(corners.b),
+        f64::from(corners.c),
+    ]);
+    out[3..9].copy_from_slice(&edges_of(own_box));
+    out[9..].copy_from_slice(&[center.x, center.y, center.z]);
 }
 
-// Writes the vertex numbers of a triangle, its own box and its centre from place `i` on.
-fn put_triangle(coords: &[f64], t: Triangle, out: &mut [f64], i: usize)
-    requires corners { Corners coords.now t }
-    requires i_in_bounds { i + 11 < length out.old }
-{
-    let own_box = i + 3;
-    let center = i + 9;
-    let numbers = Vec3 {
-        x: f64::from(t.a),
-        y: f64::from(t.b),
-        z: f64::from(t.c),
-    };
-    put_vector(numbers, out, i);
-    put_box(mesh::boxes::triangle_box(coords, t), out, own_box);
-    put_vector(mesh::boxes::triangle_center(coords, t), out, center);
-}
-
-// Writes that of the first triangles, so many, from place 13 on.
-fn put_triangles(mesh: &AcceptedMesh, triangles: usize, out: &mut [f64])
-    requires triangles_in_bounds { triangles ≤ length mesh.now.corners - 2 * length mesh.now.ends }
-    requires places_in_bounds { 13 + 12 * triangles ≤ length out.old }
-{
-    let coords = mesh.coords;
-    for t in 0..triangles {
-        let found = mesh.triangle(t);
-        put_triangle(coords, found, out, 13 + 12 * t);
+// Writes that of the first triangles, as many as have room.
+fn put_triangles(mesh: &AcceptedMesh, out: &mut [f64]) {
+    let triangles = mesh.triangle_count();
+    for (t, places) in out.chunks_exact_mut(12).enumerate().take(triangles) {
+        put_triangle(mesh, t, places);
     }
 }
 
@@ -59,8 +42,8 @@ fn put_mesh(coords: &[f64], out: &mut [f64])
     requires { 13 ≤ length out.old }
 {
     let prepared = mesh::boxes::prepare(coords);
-    put_box(mesh::boxes::mesh_box(coords), out, 0);
-    put_box(prepared.grown, out, 6);
+    out[..6].copy_from_slice(&edges_of(mesh::boxes::mesh_box(coords)));
+    out[6..12].copy_from_slice(&edges_of(prepared.grown));
     out[12] = prepared.eps;
 }
 
@@ -75,9 +58,7 @@ fn probed(mesh: &Mesh, work: &mut [u64], out: &mut [f64]) -> Result<bool, Refusa
         return Err(Refusal::Room);
     }
     put_mesh(mesh.coords, out);
-    // as many triangles as have room behind place 13
-    let triangles = mesh.triangle_count().min((out.len() - 13) / 12);
-    put_triangles(&mesh, triangles, out);
+    put_triangles(&mesh, &mut out[13..]);
     Ok(edges::keys_closed(corners, mesh.ends, work))
 }
 
