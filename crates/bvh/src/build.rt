@@ -20,7 +20,8 @@ fn number_items(items: &mut [u32])
     }
 }
 
-// Questions 1 to 6: a mesh, and lists of these lengths for its tree. The accepted mesh, or the refusal.
+// Questions 1 to 6: a mesh, and lists of these lengths for its tree. The accepted mesh, or the refusal. The lengths are no
+// struct: this is asked in one place, of three lists that C lends one by one.
 #[tactic(auto, unfolding(crate::specs::Build::ask_build))]
 pub fn ask_build<'a>(
     mesh: &Mesh<'a>,
@@ -40,7 +41,7 @@ pub fn ask_build<'a>(
 }
 
 // Builds the tree of a mesh, and says how many nodes it has: its boxes go to `boxes`, the start and count of each node to
-// `nodes` and the triangle numbers to `items`.
+// `nodes` and the triangle numbers to `items`. The lists are no `Tree`, which is one that is read: these are written.
 pub fn build(
     mesh: &Mesh,
     boxes: &mut [f64],
