@@ -5,7 +5,7 @@
 ghost use Rattle.std.specs.Prelude.{◌≡◌};
 ghost use Rattle.closest.specs.Closest as Closest;
 
-use math::Vec3;
+use math::{CornerPoints, Vec3};
 
 // The dot products of the edges ab and ac with the ways from a, b and c to the point.
 #[derive(Clone, Copy)]
@@ -20,14 +20,14 @@ struct Products {
 
 // Those products.
 #[tactic(auto, unfolding(crate::specs::Closest::products_of))]
-fn products_of(p: Vec3, a: Vec3, b: Vec3, c: Vec3) -> Products
-    ensures { result ≡ Closest.products_of p a b c }
+fn products_of(p: Vec3, t: CornerPoints) -> Products
+    ensures { result ≡ Closest.products_of p t.a t.b t.c }
 {
-    let ab = b.sub(a);
-    let ac = c.sub(a);
-    let ap = p.sub(a);
-    let bp = p.sub(b);
-    let cp = p.sub(c);
+    let ab = t.b.sub(t.a);
+    let ac = t.c.sub(t.a);
+    let ap = p.sub(t.a);
+    let bp = p.sub(t.b);
+    let cp = p.sub(t.c);
     Products {
         d1: ab.dot(ap),
         d2: ac.dot(ap),
@@ -48,54 +48,54 @@ fn along(a: Vec3, d: Vec3, t: f64) -> Vec3
 
 // The nearest point where it lies inside the triangle.
 #[tactic(auto, unfolding(crate::specs::Closest::inner, crate::specs::Closest::va, crate::specs::Closest::vb, crate::specs::Closest::vc))]
-fn inner(a: Vec3, b: Vec3, c: Vec3, d: Products) -> Vec3
-    ensures { result ≡ Closest.inner a b c d }
+fn inner(t: CornerPoints, d: Products) -> Vec3
+    ensures { result ≡ Closest.inner t.a t.b t.c d }
 {
     let va = d.d3 * d.d6 - d.d5 * d.d4;
     let vb = d.d5 * d.d2 - d.d1 * d.d6;
     let vc = d.d1 * d.d4 - d.d3 * d.d2;
     let denom = va + vb + vc;
     if denom == 0.0 {
-        return a;
+        return t.a;
     }
-    along(a, b.sub(a), vb / denom).add(c.sub(a).mul(vc / denom))
+    along(t.a, t.b.sub(t.a), vb / denom).add(t.c.sub(t.a).mul(vc / denom))
 }
 
 // The nearest point: a corner, on an edge, or inside, the first whose test holds.
 #[tactic(auto, unfolding(crate::specs::Closest::nearest, crate::specs::Closest::va, crate::specs::Closest::vb, crate::specs::Closest::vc))]
-fn nearest(a: Vec3, b: Vec3, c: Vec3, d: Products) -> Vec3
-    ensures { result ≡ Closest.nearest a b c d }
+fn nearest(t: CornerPoints, d: Products) -> Vec3
+    ensures { result ≡ Closest.nearest t.a t.b t.c d }
 {
     if (d.d1 <= 0.0) & (d.d2 <= 0.0) {
-        return a;
+        return t.a;
     }
     if (d.d3 >= 0.0) & (d.d4 <= d.d3) {
-        return b;
+        return t.b;
     }
     let vc = d.d1 * d.d4 - d.d3 * d.d2;
     if (vc <= 0.0) & (d.d1 >= 0.0) & (d.d3 <= 0.0) {
-        return along(a, b.sub(a), d.d1 / (d.d1 - d.d3));
+        return along(t.a, t.b.sub(t.a), d.d1 / (d.d1 - d.d3));
     }
     if (d.d6 >= 0.0) & (d.d5 <= d.d6) {
-        return c;
+        return t.c;
     }
     let vb = d.d5 * d.d2 - d.d1 * d.d6;
     if (vb <= 0.0) & (d.d2 >= 0.0) & (d.d6 <= 0.0) {
-        return along(a, c.sub(a), d.d2 / (d.d2 - d.d6));
+        return along(t.a, t.c.sub(t.a), d.d2 / (d.d2 - d.d6));
     }
     let va = d.d3 * d.d6 - d.d5 * d.d4;
     let from_b = d.d4 - d.d3;
     let from_c = d.d5 - d.d6;
     if (va <= 0.0) & (from_b >= 0.0) & (from_c >= 0.0) {
-        return along(b, c.sub(b), from_b / (from_b + from_c));
+        return along(t.b, t.c.sub(t.b), from_b / (from_b + from_c));
     }
-    inner(a, b, c, d)
+    inner(t, d)
 }
 
-// The point of the triangle a, b, c that is nearest to p.
+// The point of the triangle that is nearest to p.
 #[tactic(auto, unfolding(crate::specs::Closest::closest_on_triangle))]
-pub fn closest_on_triangle(p: Vec3, a: Vec3, b: Vec3, c: Vec3) -> Vec3
-    ensures { result ≡ Closest.closest_on_triangle p a b c }
+pub fn closest_on_triangle(p: Vec3, t: CornerPoints) -> Vec3
+    ensures { result ≡ Closest.closest_on_triangle p t.a t.b t.c }
 {
-    nearest(a, b, c, products_of(p, a, b, c))
+    nearest(t, products_of(p, t))
 }

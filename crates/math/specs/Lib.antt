@@ -4,3 +4,4 @@ pub mod Boxes
 pub mod Enclosing
 pub mod Alike
 pub mod Chunks
+pub mod Corners

@@ -1,10 +1,12 @@
 // Points, directions and boxes: csx's `Vec3` and `BoundingBox` (math.rs), passed and returned by value.
-// The definitions are in specs/Vectors.antt and specs/Boxes.antt.
+// The definitions are in specs/Vectors.antt and specs/Boxes.antt, and for the corners of a triangle in specs/Corners.antt.
 #![tactic(auto)]
 
 ghost use Rattle.std.specs.Prelude.{◌≡◌, ◌+◌, ◌<◌, length};
+ghost use Rattle.float.specs.Order.{Number};
 ghost use Rattle.math.specs.Vectors as Vectors;
 ghost use Rattle.math.specs.Boxes as Boxes;
+ghost use Rattle.math.specs.Corners as Corners;
 
 use std::ops::{Add, Mul, Sub};
 
@@ -281,5 +283,50 @@ impl BoundingBox {
         ensures { result ≡ Boxes.center self }
     {
         (self.min + self.max) * 0.5
+    }
+}
+
+// The corners of a triangle.
+#[derive(Clone, Copy)]
+pub struct CornerPoints {
+    pub a: Vec3,
+    pub b: Vec3,
+    pub c: Vec3,
+}
+
+// The lowest of three, the first two of which are no NaN.
+fn lowest(a: f64, b: f64, c: f64) -> f64
+    requires { Number a × Number b }
+    ensures { result ≡ Corners.lowest a b c }
+{
+    float::lower(float::lower(a, b), c)
+}
+
+// The highest of three, the first two of which are no NaN.
+fn highest(a: f64, b: f64, c: f64) -> f64
+    requires { Number a × Number b }
+    ensures { result ≡ Corners.highest a b c }
+{
+    float::higher(float::higher(a, b), c)
+}
+
+impl CornerPoints {
+    // The triangle's own box where its corners are finite: without the empty box it takes fewer steps.
+    pub fn own_box(self) -> BoundingBox
+        requires { Corners.Finite self }
+        ensures { result ≡ Corners.own_box self }
+    {
+        BoundingBox {
+            min: Vec3 {
+                x: lowest(self.a.x, self.b.x, self.c.x),
+                y: lowest(self.a.y, self.b.y, self.c.y),
+                z: lowest(self.a.z, self.b.z, self.c.z),
+            },
+            max: Vec3 {
+                x: highest(self.a.x, self.b.x, self.c.x),
+                y: highest(self.a.y, self.b.y, self.c.y),
+                z: highest(self.a.z, self.b.z, self.c.z),
+            },
+        }
     }
 }

@@ -1,11 +1,13 @@
 -- The boxes of a mesh and what is computed of them once for a list of points (document 01, Mesh rule; csx's polyhedron.rs). Definitions, and the law by which
 -- a loop over the vertices computes the mesh's box.
-use Rattle.std.specs.Prelude.{ℕ, ◌+◌, ◌*◌, ◌<◌, ◌≡◌, true, List, [], ◌∷◌, Float, length, drop}
+use Rattle.std.specs.Prelude.{ℕ, ◌+◌, ◌*◌, ◌<◌, ◌≡◌, refl, true, List, [], ◌∷◌, Float, length, drop}
 use Rattle.std.proofs.Common.{arith}
 use Rattle.float.specs.Arithmetic.{◌⊗◌}
 use Rattle.float.specs.Rules.{max}
 use Rattle.math.specs.declared.Vec3.{Vec3}
 use Rattle.math.specs.declared.BoundingBox.{BoundingBox}
+use Rattle.math.specs.declared.CornerPoints.{CornerPoints}
+use Rattle.math.specs.Corners as Points
 use Rattle.math.specs.Vectors.{at, points, points_next, norm, is_finite}
 use Rattle.math.specs.Boxes.{empty, include, expanded, size, center}
 use Rattle.geom.specs.Tolerance.{rel_tol, tol_of}
@@ -15,6 +17,10 @@ use Rattle.mesh.specs.declared.boxes.Bounds.{Bounds}
 -- vertex v of a coordinate list
 unfoldable pub vertex : List Float → ℕ → Vec3
 vertex coords v = at coords (3 * v)
+
+-- the corners of a triangle
+abbrev pub corner_points : List Float → Triangle → CornerPoints
+corner_points coords t = record { a = vertex coords t.a; b = vertex coords t.b; c = vertex coords t.c }
 
 -- a triangle's own box: that of its three corners in their order, from the empty box
 unfoldable pub triangle_box : List Float → Triangle → BoundingBox
@@ -56,6 +62,15 @@ pub record Finite (coords : List Float) (t : Triangle) : Type 0 where
   pub a : is_finite (vertex coords t.a) ≡ true
   pub b : is_finite (vertex coords t.b) ≡ true
   pub c : is_finite (vertex coords t.c) ≡ true
+
+-- so are the points that they are
+pub points_finite : (coords : List Float) (t : Triangle) → Finite coords t → Points.Finite (corner_points coords t)
+points_finite coords t f = record { a = f.a; b = f.b; c = f.c }
+
+-- whose box is the triangle's own
+pub points_box : (coords : List Float) (t : Triangle) → Points.own_box (corner_points coords t) ≡ triangle_box coords t
+unfolding Points.own_box triangle_box
+points_box coords t = refl
 
 -- from vertex v on: it is taken in, and then the rest
 pub include_all_next : (box : BoundingBox) (coords : List Float) (v : ℕ) → 3 * v + 2 < length coords → include_all box (points (drop (3 * v) coords)) ≡ include_all (include box (at coords (3 * v))) (points (drop (3 * (v + 1)) coords))

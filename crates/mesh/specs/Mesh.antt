@@ -2,9 +2,11 @@
 use Rattle.std.specs.Prelude.{ℕ, zero, suc, ◌+◌, List, [], ◌∷◌, length, get_or}
 pub use Rattle.mesh_questions.specs.Mesh.{Mesh, mesh}
 use Rattle.math.specs.declared.BoundingBox.{BoundingBox}
+use Rattle.math.specs.declared.CornerPoints.{CornerPoints}
 use Rattle.math.specs.Boxes.{empty, join}
 use Rattle.mesh.specs.declared.Triangle.{Triangle}
 use Rattle.mesh.specs.Triangles.{triangle, triangles}
+use Rattle.mesh.specs.Boxes as Boxes
 use Rattle.mesh.specs.Boxes.{triangle_box}
 
 -- how many triangles the mesh has
@@ -14,6 +16,10 @@ triangle_count m = length (triangles m.corners m.ends)
 -- triangle t
 abbrev pub triangle_at : Mesh → ℕ → Triangle
 triangle_at m t = get_or (triangles m.corners m.ends) t (triangle 0 0 0)
+
+-- its corners
+abbrev pub corner_points : Mesh → ℕ → CornerPoints
+corner_points m t = Boxes.corner_points m.coords (triangle_at m t)
 
 -- the own box of triangle t
 unfoldable pub own_box : Mesh → ℕ → BoundingBox

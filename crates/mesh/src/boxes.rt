@@ -1,16 +1,16 @@
 // The boxes of a mesh and its triangles, and what is worked out of the mesh's box once a list. The
 // definitions are in specs/Boxes.antt and specs/Centers.antt.
 ghost use Rattle.std.specs.Prelude.{◌≡◌, ◌+◌, ◌-◌, ◌*◌, ◌<◌, length};
-ghost use Rattle.float.specs.Order.{Number};
+ghost use Rattle.math.specs.Corners as Corners;
 ghost use Rattle.math.specs.Vectors.{component};
 ghost use Rattle.mesh.specs.Axes as Axes;
 ghost use Rattle.mesh.specs.Boxes as Boxes;
-ghost use Rattle.mesh.specs.Centers as Centers;
 ghost use Rattle.mesh.specs.Items as Items;
 ghost use Rattle.mesh.specs.Mesh as Mesh;
 
 use crate::{AcceptedMesh, Axis, Triangle};
-use math::{BoundingBox, Vec3};
+use float::{higher, lower};
+use math::{BoundingBox, CornerPoints, Vec3};
 
 // What is computed of a mesh once for a list of points.
 #[derive(Clone, Copy)]
@@ -30,7 +30,8 @@ pub fn vertex(coords: &[f64], v: u32) -> Vec3
     Vec3::at(coords, 3 * (v as usize))
 }
 
-// A triangle's own box.
+// A triangle's own box. Neither this nor the centre is a method of `AcceptedMesh`: they are promised of any coordinates,
+// finite or not.
 #[tactic(auto, unfolding(crate::specs::Boxes::triangle_box))]
 pub fn triangle_box(coords: &[f64], t: Triangle) -> BoundingBox
     requires { Boxes.Corners coords.now t }
@@ -51,66 +52,50 @@ pub fn triangle_center(coords: &[f64], t: Triangle) -> Vec3
     triangle_box(coords, t).center()
 }
 
-// The lowest of three, the first two of which are no NaN.
-fn lowest(a: f64, b: f64, c: f64) -> f64
-    requires { Number a × Number b }
-    ensures { result ≡ Centers.lowest a b c }
-{
-    float::lower(float::lower(a, b), c)
-}
-
-// The highest of three, the first two of which are no NaN.
-fn highest(a: f64, b: f64, c: f64) -> f64
-    requires { Number a × Number b }
-    ensures { result ≡ Centers.highest a b c }
-{
-    float::higher(float::higher(a, b), c)
-}
-
-// A triangle's own box where its corners are finite: without the empty box it takes fewer steps.
-pub fn finite_box(coords: &[f64], t: Triangle) -> BoundingBox
-    requires { Boxes.Corners coords.now t × Boxes.Finite coords.now t }
-    ensures { result ≡ Boxes.triangle_box coords.now t }
-{
-    let a = vertex(coords, t.a);
-    let b = vertex(coords, t.b);
-    let c = vertex(coords, t.c);
-    BoundingBox {
-        min: Vec3 {
-            x: lowest(a.x, b.x, c.x),
-            y: lowest(a.y, b.y, c.y),
-            z: lowest(a.z, b.z, c.z),
-        },
-        max: Vec3 {
-            x: highest(a.x, b.x, c.x),
-            y: highest(a.y, b.y, c.y),
-            z: highest(a.z, b.z, c.z),
-        },
-    }
-}
-
 impl Axis {
     // Its place among the three numbers of a point.
     pub fn place(self) -> usize
         ensures { result ≡ Axes.place self }
     {
-        match self {
-            Axis::X => 0,
-            Axis::Y => 1,
-            Axis::Z => 2,
-        }
+        self as usize
     }
 }
 
 impl<'a> AcceptedMesh<'a> {
+    // The corners of triangle `t`.
+    pub fn corner_points(&self, t: u32) -> CornerPoints
+        requires { t < length self.now.corners - 2 * length self.now.ends }
+        ensures points { result ≡ Mesh.corner_points self.now t }
+        ensures finite { Corners.Finite result }
+    {
+        let triangle = self.triangle(t as usize);
+        CornerPoints {
+            a: vertex(self.coords, triangle.a),
+            b: vertex(self.coords, triangle.b),
+            c: vertex(self.coords, triangle.c),
+        }
+    }
+
     // The own box of triangle `t`.
-    #[tactic(auto, unfolding(crate::specs::Mesh::own_box))]
+    #[tactic(auto, unfolding(crate::specs::Mesh::own_box), using(crate::specs::Boxes::points_box))]
     pub fn own_box(&self, t: u32) -> BoundingBox
         requires { t < length self.now.corners - 2 * length self.now.ends }
         ensures { result ≡ Mesh.own_box self.now t }
     {
+        self.corner_points(t).own_box()
+    }
+
+    // The centre of the own box of triangle `t` on an axis: that axis alone is worked out.
+    pub fn center_on(&self, t: u32, axis: Axis) -> f64
+        requires { t < length self.now.corners - 2 * length self.now.ends }
+        ensures { result ≡ component (Boxes.triangle_center self.now.coords (Mesh.triangle_at self.now t)) (Axes.place axis) }
+    {
         let triangle = self.triangle(t as usize);
-        finite_box(self.coords, triangle)
+        let k = axis.place();
+        let a = self.coords[3 * (triangle.a as usize) + k];
+        let b = self.coords[3 * (triangle.b as usize) + k];
+        let c = self.coords[3 * (triangle.c as usize) + k];
+        (lower(lower(a, b), c) + higher(higher(a, b), c)) * 0.5
     }
 
     // The own boxes of some triangles joined in their order, starting with the first one's.
@@ -125,18 +110,6 @@ impl<'a> AcceptedMesh<'a> {
         }
         b
     }
-}
-
-// The centre of a triangle's own box on an axis, where its corners are finite: that axis alone is worked out.
-pub fn center_on(coords: &[f64], t: Triangle, axis: Axis) -> f64
-    requires { Boxes.Corners coords.now t × Boxes.Finite coords.now t }
-    ensures { result ≡ component (Boxes.triangle_center coords.now t) (Axes.place axis) }
-{
-    let k = axis.place();
-    let a = coords[3 * (t.a as usize) + k];
-    let b = coords[3 * (t.b as usize) + k];
-    let c = coords[3 * (t.c as usize) + k];
-    (lowest(a, b, c) + highest(a, b, c)) * 0.5
 }
 
 // The box of all vertices, used or not.

@@ -1,12 +1,13 @@
 // Triangle t of a mesh: the t-th of the fans of its faces. The definitions are in specs/Triangles.antt.
 ghost use Rattle.std.specs.Prelude.{◌≡◌, ◌+◌, ◌-◌, ◌*◌, ◌≤◌, ◌<◌, length, get_or};
 ghost use Rattle.mesh_questions.specs.Accepted.{Fanned};
+ghost use Rattle.mesh.specs.Boxes as Boxes;
 ghost use Rattle.mesh.specs.Mesh as Mesh;
 ghost use Rattle.mesh.specs.Triangles as Triangles;
 
 use crate::{AcceptedMesh, Sides, Triangle};
 
-// Whether every face has this many corners.
+// Whether every face has this many corners. A loop: each face is compared with where the one before it ends.
 fn equal_faces(sides: usize, ends: &[u32]) -> bool
     requires { sides ≤ 4 }
     ensures { result ≡ Triangles.equal_faces sides 0 ends.now }
@@ -48,7 +49,8 @@ fn start_of(ends: &[u32], f: usize) -> usize
     ends[f - 1] as usize
 }
 
-// The face of triangle `t`, by halves: it lies between faces `lo` and `hi`.
+// The face of triangle `t`, by halves: it lies between faces `lo` and `hi`. By hand: the test needs the face's number beside
+// where the face ends, and the library's `partition_point` gives the end alone.
 fn search(ends: &[u32], t: usize) -> usize
     requires { (length ends.now ≤ 65536) × (t < 4294967296) × (t + 2 * length ends.now < Triangles.start_from 0 ends.now (length ends.now)) }
     ensures { Triangles.InFace ends.now t result }
@@ -129,10 +131,12 @@ pub fn triangle(corners: &[u32], ends: &[u32], sides: Sides, t: usize) -> Triang
 }
 
 impl<'a> AcceptedMesh<'a> {
-    // Triangle `t`.
+    // Triangle `t`. Its corners are finite vertices.
     pub fn triangle(&self, t: usize) -> Triangle
         requires { t < length self.now.corners - 2 * length self.now.ends }
-        ensures { result ≡ Mesh.triangle_at self.now t }
+        ensures triangle { result ≡ Mesh.triangle_at self.now t }
+        ensures corners { Boxes.Corners self.now.coords result }
+        ensures finite { Boxes.Finite self.now.coords result }
     {
         triangle(self.corners, self.ends, self.sides, t)
     }

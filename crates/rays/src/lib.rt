@@ -8,7 +8,7 @@ ghost use Rattle.rays.specs.Rays as Rays;
 ghost use Rattle.rays.specs.Slabs as Slabs;
 
 use float::higher;
-use math::{BoundingBox, Vec3};
+use math::{BoundingBox, CornerPoints, Vec3};
 
 // How near an edge is too near to say, csx's EPS; its negation, and the rounded 1 + EPS and 1 - EPS.
 const RIM: f64 = 1e-9;
@@ -37,7 +37,7 @@ fn entry(o: f64, inv: f64, lo: f64, hi: f64) -> f64
     (plane - o) * inv
 }
 
-// Where the ray leaves a slab, negated.
+// Where the ray leaves a slab, negated. It is not `entry` with `-inv`: where `inv` is 0 that would choose the other plane.
 #[tactic(auto, unfolding(crate::specs::Slabs::minus_exit))]
 fn minus_exit(o: f64, inv: f64, lo: f64, hi: f64) -> f64
     ensures { result ≡ Slabs.minus_exit o inv lo hi }
@@ -47,7 +47,8 @@ fn minus_exit(o: f64, inv: f64, lo: f64, hi: f64) -> f64
 }
 
 // Whether the last of the entries x, y and z into slabs, from 0 on, is at most the first exit; the exits u, v and w
-// are negated.
+// are negated. Six numbers and no arrays: a processor takes them in registers, and the two kinds of callers read them from
+// different places.
 pub fn overlap(x: f64, y: f64, z: f64, u: f64, v: f64, w: f64) -> bool
     requires { Number x × Number y × Number u × Number v }
     ensures { result ≡ Slabs.overlap x y z u v w }
@@ -81,18 +82,18 @@ fn parallel(det: f64, e1: Vec3, e2: Vec3) -> bool
     (scale == 0.0) | (float::abs(det) <= 1e-12 * scale)
 }
 
-// The ray from `o` in direction `d` and the triangle a, b, c. Of csx's tests that lead to a miss the first takes two
+// The ray from `o` in direction `d` and a triangle. Of csx's tests that lead to a miss the first takes two
 // roots; here it comes after the others.
 #[tactic(auto, unfolding(crate::specs::Rays::ray_triangle, crate::specs::Rays::hit_at), using(crate::specs::RayLaws::miss_anyway))]
-pub fn ray_triangle(o: Vec3, d: Vec3, a: Vec3, b: Vec3, c: Vec3) -> RayHit
-    ensures { result ≡ Rays.ray_triangle o d a b c }
+pub fn ray_triangle(o: Vec3, d: Vec3, t: CornerPoints) -> RayHit
+    ensures { result ≡ Rays.ray_triangle o d t.a t.b t.c }
 {
-    let e1 = b.sub(a);
-    let e2 = c.sub(a);
+    let e1 = t.b.sub(t.a);
+    let e2 = t.c.sub(t.a);
     let h = d.cross(e2);
     let det = e1.dot(h);
     let f = 1.0 / det;
-    let s = o.sub(a);
+    let s = o.sub(t.a);
     let u = f * s.dot(h);
     if !((MINUS_RIM <= u) & (u <= ONE_PLUS_RIM)) {
         return RayHit::Miss;
@@ -102,8 +103,8 @@ pub fn ray_triangle(o: Vec3, d: Vec3, a: Vec3, b: Vec3, c: Vec3) -> RayHit
     if (v < MINUS_RIM) | (u + v > ONE_PLUS_RIM) {
         return RayHit::Miss;
     }
-    let t = f * e2.dot(q);
-    if t <= 0.0 {
+    let along = f * e2.dot(q);
+    if along <= 0.0 {
         return RayHit::Miss;
     }
     if parallel(det, e1, e2) {

@@ -1,6 +1,6 @@
 -- `highest` meets its contract: the infinity that the definition starts from gives way to the first number.
 use Rattle.float.specs.Order.{max_number, max_bottom}
-use Rattle.mesh.proofs.boxes.highest.Goals as goal
+use Rattle.math.proofs.highest.Goals as goal
 
 pub higher-requires-2 : goal.higher-requires-2
 higher-requires-2 c = rw c.higher.ensures (max_number c.args.a c.args.b c.requires.0 c.requires.1)
