@@ -51,11 +51,7 @@ impl Answer {
     pub fn byte(self) -> u8
         ensures { result ≡ Answers.byte self }
     {
-        match self {
-            Answer::Outside => 0,
-            Answer::Inside => 1,
-            Answer::Undecided => 2,
-        }
+        self as u8
     }
 }
 
