@@ -1,7 +1,7 @@
-// A lent box tree: the tree rules, the test that computes them, and how a node's box is read. The definitions are in specs/.
+// A lent box tree: the tree rules, the test that computes them, and how a node and its box are read. The definitions are in specs/.
 #![tactic(auto)]
 
-ghost use Rattle.std.specs.Prelude.{◌≡◌, ◌+◌, ◌*◌, ◌<◌, length};
+ghost use Rattle.std.specs.Prelude.{◌≡◌, ◌+◌, ◌*◌, ◌<◌, length, get_or};
 ghost use Rattle.tree.specs.Tree as Trees;
 
 use math::{BoundingBox, Vec3};
@@ -15,6 +15,13 @@ pub struct Walked {
     pub node: usize,
     pub item: usize,
     pub joined: BoundingBox,
+}
+
+// A leaf's first item place and its number of items, or an inner node's right child and 0.
+#[derive(Clone, Copy)]
+pub struct Node {
+    pub start: usize,
+    pub count: usize,
 }
 
 // A lent tree, whatever numbers it has: six floats a node, two numbers a node, and the triangle numbers.
@@ -31,7 +38,8 @@ impl<'a> Model for Tree<'a> {
     ghost view = { λ t. Trees.tree t.boxes.now t.nodes.now t.items.now };
 }
 
-// An accepted mesh, and a tree that keeps the tree rules for it.
+// An accepted mesh, and a tree that keeps the tree rules for it. It has the lists of `Tree` as its own: the walks read them at
+// every step, and through a `Tree` in it each of those places would be longer.
 #[derive(Drop)]
 pub struct AcceptedTree<'a> {
     pub mesh: AcceptedMesh<'a>,
@@ -61,5 +69,16 @@ pub fn node_box(boxes: &[f64], n: usize) -> BoundingBox
     BoundingBox {
         min: Vec3::at(boxes, 6 * n),
         max: Vec3::at(boxes, 6 * n + 3),
+    }
+}
+
+// Node `n`.
+pub fn node_at(nodes: &[u32], n: usize) -> Node
+    requires { 2 * n + 1 < length nodes.now }
+    ensures { (result.start ≡ get_or nodes.now (2 * n) 0) × (result.count ≡ get_or nodes.now (2 * n + 1) 0) }
+{
+    Node {
+        start: nodes[2 * n] as usize,
+        count: nodes[2 * n + 1] as usize,
     }
 }
