@@ -75,7 +75,7 @@ pub fn node_box(boxes: &[f64], n: usize) -> BoundingBox
 // Node `n`.
 pub fn node_at(nodes: &[u32], n: usize) -> Node
     requires { 2 * n + 1 < length nodes.now }
-    ensures { (result.start ≡ get_or nodes.now (2 * n) 0) × (result.count ≡ get_or nodes.now (2 * n + 1) 0) }
+    ensures { (result.start ≡ get_or nodes.now (2 * n) 0) × (result.count ≡ get_or nodes.now (2 * n + 1) 0) × (result.start < 4294967296) }
 {
     Node {
         start: nodes[2 * n] as usize,

@@ -13,81 +13,110 @@ use math::BoundingBox;
 use mesh::AcceptedMesh;
 use mesh_questions::Mesh;
 use refusal::Refusal;
-use tree::{AcceptedTree, Tree, Walked, node_box};
+use std::marker::Model;
+use tree::{AcceptedTree, Tree, Walked, node_at, node_box};
+
+// An accepted mesh and a lent tree whose lists fit each other, and whose items are triangles of the mesh.
+#[derive(Drop)]
+struct Lent<'t, 'a> {
+    mesh: &'t AcceptedMesh<'a>,
+    tree: &'t Tree<'a>,
+}
+
+impl<'t, 'a> Model for Lent<'t, 'a> {
+    ghost use Rattle.tree.specs.TreeRules.{AcceptedTree};
+    ghost use Rattle.tree.specs.TreeTest as TreeTest;
+
+    ghost Value = { AcceptedTree };
+
+    ghost view = { λ l. record { mesh = l.mesh.now; tree = l.tree.now } };
+
+    ghost invariant = { λ l. TreeTest.Lent l.mesh.now l.tree.now };
+}
 
 // What the walk found, if the box of the node encloses what lies below it.
 #[tactic(auto, unfolding(tree::specs::TreeTest::boxed_by))]
 fn boxed(b: BoundingBox, walked: Walked) -> Option<Walked>
     ensures { result ≡ TreeTest.boxed_by b (Some walked) }
 {
-    if b.encloses(walked.joined) {
-        Some(walked)
-    } else {
-        None
-    }
+    b.encloses(walked.joined).then_some(walked)
 }
 
-// The walk at a leaf: it has at most four items, they begin at place `i` and are in the list.
-fn check_leaf(mesh: &AcceptedMesh, tree: &Tree, n: usize, i: usize) -> Option<Walked>
-    requires lent { TreeTest.Lent mesh.now tree.now }
-    requires node { n < length tree.now.nodes / 2 }
-    requires leaf { 0 < Trees.count_of tree.now n }
-    ensures { result ≡ TreeTest.leaf_walk mesh.now tree.now n i }
-{
-    let nodes = tree.nodes;
-    let items = tree.items;
-    let start = nodes[2 * n] as usize;
-    let count = nodes[2 * n + 1] as usize;
-    if count > 4 {
-        return None;
+impl<'t, 'a> Lent<'t, 'a> {
+    // The walk at a leaf: it has at most four items, they begin at place `i` and are in the list.
+    fn leaf(&self, n: usize, i: usize) -> Option<Walked>
+        requires node { n < length self.now.tree.nodes / 2 }
+        requires leaf { 0 < Trees.count_of self.now.tree n }
+        ensures { result ≡ TreeTest.leaf_walk self.now.mesh self.now.tree n i }
+    {
+        let tree = self.tree;
+        let items = tree.items;
+        let node = node_at(tree.nodes, n);
+        if node.count > 4 {
+            return None;
+        }
+        if node.start != i {
+            return None;
+        }
+        if i + node.count > items.len() {
+            return None;
+        }
+        boxed(
+            node_box(tree.boxes, n),
+            Walked {
+                node: n + 1,
+                item: i + node.count,
+                joined: self.mesh.joined_boxes(&items[i..i + node.count]),
+            },
+        )
     }
-    if start != i {
-        return None;
-    }
-    if i + count > items.len() {
-        return None;
-    }
-    boxed(
-        node_box(tree.boxes, n),
-        Walked {
-            node: n + 1,
-            item: i + count,
-            joined: mesh.joined_boxes(&items[i..i + count]),
-        },
-    )
-}
 
-// The walk over the subtree of node `n`, whose items begin at place `i`, with at most `depth` nodes on a
-// path.
-fn check_node(mesh: &AcceptedMesh, tree: &Tree, depth: usize, n: usize, i: usize) -> Option<Walked>
-    requires lent { TreeTest.Lent mesh.now tree.now }
-    requires depth_bound { depth ≤ 32 }
-    ensures { result ≡ TreeTest.walk mesh.now tree.now depth n i }
-{
-    let nodes = tree.nodes;
-    if depth == 0 {
-        return None;
+    // The walk over the subtree of node `n`, whose items begin at place `i`, with at most `depth` nodes on a
+    // path.
+    fn walk(&self, depth: usize, n: usize, i: usize) -> Option<Walked>
+        requires { depth ≤ 32 }
+        ensures { result ≡ TreeTest.walk self.now.mesh self.now.tree depth n i }
+    {
+        let tree = self.tree;
+        if depth == 0 {
+            return None;
+        }
+        if n >= tree.nodes.len() / 2 {
+            return None;
+        }
+        let node = node_at(tree.nodes, n);
+        if node.count > 0 {
+            return self.leaf(n, i);
+        }
+        let left = self.walk(depth - 1, n + 1, i)?;
+        if left.node != node.start {
+            return None;
+        }
+        let right = self.walk(depth - 1, node.start, left.item)?;
+        boxed(
+            node_box(tree.boxes, n),
+            Walked {
+                node: right.node,
+                item: right.item,
+                joined: left.joined.join(right.joined),
+            },
+        )
     }
-    if n >= nodes.len() / 2 {
-        return None;
+
+    // Whether there are no nodes, if there are no triangles, or else the root's subtree has all nodes and all
+    // item places.
+    fn root_fits(&self) -> bool
+        ensures { result ≡ TreeTest.root_test self.now.mesh self.now.tree }
+    {
+        let tree = self.tree;
+        let triangles = self.mesh.triangle_count();
+        let n = tree.nodes.len() / 2;
+        if triangles == 0 {
+            return n == 0;
+        }
+        self.walk(32, 0, 0)
+            .is_some_and(|walked| (walked.node == n) & (walked.item == triangles))
     }
-    let start = nodes[2 * n] as usize;
-    if nodes[2 * n + 1] > 0 {
-        return check_leaf(mesh, tree, n, i);
-    }
-    let left = check_node(mesh, tree, depth - 1, n + 1, i)?;
-    if left.node != start {
-        return None;
-    }
-    let right = check_node(mesh, tree, depth - 1, start, left.item)?;
-    boxed(
-        node_box(tree.boxes, n),
-        Walked {
-            node: right.node,
-            item: right.item,
-            joined: left.joined.join(right.joined),
-        },
-    )
 }
 
 // Whether the list of boxes has six floats a node, and the list of node numbers two.
@@ -96,23 +125,6 @@ fn lengths_fit(tree: &Tree) -> bool
 {
     let n = tree.nodes.len() / 2;
     (tree.boxes.len() == 6 * n) & (tree.nodes.len() == 2 * n)
-}
-
-// Whether there are no nodes, if there are no triangles, or else the root's subtree has all nodes and all
-// item places.
-fn root_fits(mesh: &AcceptedMesh, tree: &Tree) -> bool
-    requires { TreeTest.Lent mesh.now tree.now }
-    ensures { result ≡ TreeTest.root_test mesh.now tree.now }
-{
-    let triangles = mesh.triangle_count();
-    let n = tree.nodes.len() / 2;
-    if triangles == 0 {
-        return n == 0;
-    }
-    match check_node(mesh, tree, 32, 0, 0) {
-        Some(walked) => (walked.node == n) & (walked.item == triangles),
-        None => false,
-    }
 }
 
 // Whether the tree keeps the rules. Work places are used for counting the items.
@@ -127,7 +139,7 @@ fn keeps_rules(mesh: &AcceptedMesh, tree: &Tree, work: &mut [u64]) -> bool
     if !items_once(tree.items, triangles, work) {
         return false;
     }
-    root_fits(mesh, tree)
+    Lent { mesh, tree }.root_fits()
 }
 
 // Questions 1 to 6: a mesh, and a work place for each corner.

@@ -76,9 +76,9 @@ returns-then-not-items_once c =
     let no : once m t accepted ≡ false = sym counted.answer ∙ c.if-not-items_once.true in
     record { answer = rw (tested m t accepted, yes, no); rest = rest m t accepted _ _ _ counted }
 
-pub root_fits-requires : goal.root_fits-requires
+pub invariant_of-root_fits : goal.invariant_of-root_fits
 unfolding node_count
-root_fits-requires c =
+invariant_of-root_fits c =
     let accepted = c.triangle_count-triangles.ensures.accepted in
     let counted = rw (c.triangle_count-triangles.ensures.count, ap (λ (t : Tree). t.items) c.tree.view_is) at c.items_once.ensures in
     lent c.args.mesh.now c.args.tree.now accepted (sym c.lengths_fit.ensures ∙ c.if-not-lengths_fit.false) (sym counted.answer ∙ c.if-not-items_once.false)
