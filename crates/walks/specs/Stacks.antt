@@ -55,6 +55,11 @@ pub record NextLeaf (m : Mesh) (t : Tree) (passes : BoundingBox → Bool) (s : L
   pub onward : Onward m t passes s at s' at'
   pub leaf : 0 < at'.height → 0 < count_of t at'.node
 
+-- where a walk begins, with the number of nodes at each of its stack's places: it comes to all that is to be visited
+pub record Begins (m : Mesh) (t : Tree) (passes : BoundingBox → Bool) (at : Place) : Type 0 where
+  pub walking : Walking m t passes (replicate 32 (length t.nodes / 2)) at
+  pub coming : pending t passes (replicate 32 (length t.nodes / 2)) at ≡ reached (all_visits t passes)
+
 -- ---- the steps of a walk
 
 abbrev pub place : ℕ → ℕ → Place
@@ -422,3 +427,16 @@ no_root t passes few = rw (eq-eqb (length t.nodes / 2) 0 (omega arith)) refl
 pub root_out : (t : Tree) (passes : BoundingBox → Bool) → passes (box_of t 0) ≡ false → reached (all_visits t passes) ≡ []
 unfolding all_visits
 root_out t passes e = by_test (eqb (node_count t) 0) (λ z. rw z (unfold reached in refl)) (λ z. rw z (below_out t passes 32 0 e))
+
+-- so that is how it begins
+module _ {m : Mesh} {t : Tree} {passes : BoundingBox → Bool} where
+  pub begins_rootless : length t.nodes < 2 → Begins m t passes (place 0 0)
+  unfolding pending_from
+  begins_rootless few = record { walking = ended m t passes (length t.nodes / 2); coming = sym (no_root t passes few) }
+
+  pub begins_outside : passes (box_of t 0) ≡ false → Begins m t passes (place 0 0)
+  unfolding pending_from
+  begins_outside e = record { walking = ended m t passes (length t.nodes / 2); coming = sym (root_out t passes e) }
+
+  pub begins_at_root : TreeRules m t → 2 ≤ length t.nodes → passes (box_of t 0) ≡ true → Begins m t passes (place 0 1)
+  begins_at_root rules some e = record { walking = start m t rules some passes e; coming = start_same t passes _ some }

@@ -1,7 +1,9 @@
 -- Laws of what a walk comes to: up to the triangle that ends it, from a node down, and at a leaf.
 use Prim.Native.Nat.{ℕ, zero, suc, ◌+◌, ◌-◌, ◌≤◌, ◌<◌}
-use Rattle.std.proofs.Common.{add-one, arith, sym, subst, ◌∙◌, drop_of_length-le, drop-cons}
-use Rattle.std.specs.Prelude.{◌≡◌, Bool, true, false, cond, List, [], ◌∷◌, ◌++◌, map, T, length, get_or, take, drop}
+use Rattle.std.proofs.Common.{add-one, arith, sym, subst, ◌∙◌, length-append, drop_of_length-le, drop-cons}
+use Rattle.std.specs.Prelude.{Option, Some, None, ⊤, ◌≡◌, Bool, true, false, cond, List, [], ◌∷◌, ◌++◌, map, T, length, get_or, take, drop}
+use Rattle.std.specs.Borrow.{Bor}
+use Rattle.std.specs.Iterator.{MakesProgress, item_count}
 use Rattle.std.proofs.Math.Path.{refl, ap}
 use borrow.Author.Tests.{eq-eqb, ne_eqb}
 use Rattle.keys.specs.SortingTheorems.{by_test}
@@ -10,7 +12,7 @@ use Rattle.tree.specs.Tree.{Tree, box_of, start_of, count_of}
 use Rattle.rays.specs.declared.RayHit.{RayHit}
 use Rattle.scan.specs.Scan.{some, is_degenerate, vote_over}
 use Rattle.scan.specs.ScanLaws.{some_cons}
-use Rattle.walks.specs.Walks.{Visit, node, item, items_from, visits, up_to, reached}
+use Rattle.walks.specs.Walks.{Visit, node, item, items_from, visits, up_to, reached, Walk, Gives}
 
 -- a test does not both hold and fail
 pub clash : {A : Type 0} → true ≡ false → A
@@ -115,3 +117,12 @@ pub items_from_part : (items : List ℕ) (i places : ℕ) → i + places ≤ len
 unfolding items_from
 items_from_part items i zero h = refl
 items_from_part items i (suc places) h = rw (drop-cons items i 0 (omega arith)) (ap (λ rest. get_or items i 0 ∷ rest) (rw (← add-one i) (items_from_part items (i + 1) places (omega arith))))
+
+-- ---- the leaves one after the other
+
+-- with each leaf the walk comes to fewer
+pub progress : (w : Walk) (given : Option (Bor (List ℕ))) (w' : Walk) → Gives w given w' → MakesProgress (λ _. ⊤) (item_count (λ (w : Walk). w.coming)) w given w'
+progress w None w' g = record { on = λ _. tt; keeps = tt; rests = λ _. tt }
+progress w (Some items) w' g =
+    let all : length w.coming ≡ length (items.now ++ w'.coming) = ap (λ l. length l) g.leaf in
+    record { on = λ _. (tt, tt, omega (arith, rw length-append at all, g.places.0)); keeps = tt; rests = λ _. tt }

@@ -1,8 +1,10 @@
 -- The two walks over a lent tree: what they come to, in which order. Definitions only.
-use Rattle.std.specs.Prelude.{ℕ, zero, suc, ◌+◌, Bool, cond, List, [], ◌∷◌, ◌++◌, map, eqb, Float, get_or}
+use Rattle.std.specs.Prelude.{Option, ℕ, zero, suc, ◌+◌, ◌≤◌, ◌<◌, ◌≡◌, Bool, cond, List, [], ◌∷◌, ◌++◌, map, eqb, Float, length, get_or, IfSome, IfNone}
+use Rattle.std.specs.Borrow.{Bor}
 use Rattle.math.specs.declared.Vec3.{Vec3}
 use Rattle.math.specs.declared.BoundingBox.{BoundingBox}
 use Rattle.mesh_questions.specs.Accepted.{Accepted}
+use Rattle.mesh.specs.Items.{Items}
 use Rattle.mesh.specs.Mesh.{Mesh}
 use Rattle.tree.specs.Tree.{Tree, node_count, box_of, start_of, count_of}
 use Rattle.tree.specs.TreeRules.{TreeRules}
@@ -73,3 +75,11 @@ pub record Ready (m : Mesh) (t : Tree) : Type 0 where
 pub record Walk : Type 0 where
   pub mesh : Mesh
   pub coming : List ℕ
+
+-- what a walk gives next: of the triangles that it still comes to the first ones, which are those of one leaf, one to four; and nothing only where it comes to no more
+pub record Gives (w : Walk) (given : Option (Bor (List ℕ))) (w' : Walk) : Type 0 where
+  pub mesh : w'.mesh ≡ w.mesh
+  pub leaf : IfSome given (λ items. w.coming ≡ items.now ++ w'.coming)
+  pub triangles : IfSome given (λ items. Items w.mesh items.now)
+  pub places : IfSome given (λ items. (0 < length items.now) × (length items.now ≤ 4))
+  pub end : IfNone given (w.coming ≡ [])

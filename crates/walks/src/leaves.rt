@@ -1,15 +1,14 @@
 // The leaves that a walk comes to, one after the other.
-ghost use Rattle.std.specs.Prelude.{◌≡◌, ◌+◌, ◌*◌, ◌≤◌, ◌<◌, ◌++◌, Bool, false, List, [], length, IfSome, IfNone};
+ghost use Rattle.std.specs.Prelude.{◌≡◌, ◌+◌, ◌*◌, ◌<◌, Bool, false, length};
 ghost use Rattle.math.specs.declared.BoundingBox.{BoundingBox};
 ghost use Rattle.math.specs.Boxes.{is_empty};
-ghost use Rattle.mesh.specs.Items as Items;
 ghost use Rattle.tree.specs.Tree.{box_at};
 ghost use Rattle.walks.specs.Stacks as Stacks;
 ghost use Rattle.walks.specs.Walks as Walks;
 
-use crate::nodes::{Place, advance, node_at, popped};
+use crate::nodes::{Place, advance, popped};
 use std::marker::Model;
-use tree::AcceptedTree;
+use tree::{AcceptedTree, node_at};
 
 // The test of a node's box by which a walk enters the node or passes it by.
 pub trait NodeTest {
@@ -70,56 +69,55 @@ impl<'t, 'a, P: NodeTest> Model for Leaves<'t, 'a, P> {
     ghost invariant = { λ w. Walking w.tree.now.mesh w.tree.now.tree (P.passes w.test.now) w.stack w.at };
 }
 
+// Where a walk begins: at the root, if there is one and its box passes, and else at its end.
+fn first_place<P: NodeTest>(tree: &AcceptedTree, test: &P) -> Place
+    ensures { Stacks.Begins tree.now.mesh tree.now.tree (P.passes test.now) result }
+{
+    let end = Place { node: 0, height: 0 };
+    if tree.nodes.len() < 2 {
+        return end;
+    }
+    if !test.passes(tree.boxes, 0) {
+        return end;
+    }
+    Place { node: 0, height: 1 }
+}
+
 impl<'t, 'a, P: NodeTest> Leaves<'t, 'a, P> {
     // The walk from the root on.
     pub fn new(tree: &'t AcceptedTree<'a>, test: &'t P) -> Self
         ensures mesh { result.mesh ≡ tree.now.mesh }
         ensures coming { result.coming ≡ Walks.reached (Walks.all_visits tree.now.tree (P.passes test.now)) }
     {
-        let nodes = tree.nodes;
-        let stack = [nodes.len() / 2; 32];
-        let end = Place { node: 0, height: 0 };
-        if nodes.len() < 2 {
-            return Leaves {
-                tree,
-                test,
-                stack,
-                at: end,
-            };
-        }
-        if !test.passes(tree.boxes, 0) {
-            return Leaves {
-                tree,
-                test,
-                stack,
-                at: end,
-            };
-        }
         Leaves {
             tree,
             test,
-            stack,
-            at: Place { node: 0, height: 1 },
+            stack: [tree.nodes.len() / 2; 32],
+            at: first_place(tree, test),
         }
     }
+}
 
-    // The triangles of the next leaf.
-    pub fn next(&mut self) -> Option<&'a [u32]>
-        ensures mesh { self.new.mesh ≡ self.old.mesh }
-        ensures leaf { IfSome result (λ items. self.old.coming ≡ items.now ++ self.new.coming) }
-        ensures triangles { IfSome result (λ items. Items.Items self.old.mesh items.now) }
-        ensures places { IfSome result (λ items. (0 < length items.now) × (length items.now ≤ 4)) }
-        ensures end { IfNone result (self.old.coming ≡ []) }
-    {
+// The triangles of one leaf after the other.
+impl<'t, 'a, P: NodeTest> Iterator for Leaves<'t, 'a, P> {
+    ghost use Rattle.std.specs.Iterator.{item_count};
+    ghost use Rattle.walks.specs.Walks.{Walk, Gives};
+
+    type Item = &'a [u32];
+
+    ghost next_gives = { Gives };
+
+    ghost remaining = { item_count (λ (w : Walk). w.coming) };
+
+    fn next(&mut self) -> Option<&'a [u32]> {
         let tree = self.tree;
-        let nodes = tree.nodes;
         let items = tree.items;
         let at = next_leaf(tree, self.test, &mut self.stack, self.at);
         if at.height == 0 {
             self.at = at;
             return None;
         }
-        let leaf = node_at(nodes, at.node);
+        let leaf = node_at(tree.nodes, at.node);
         self.at = popped(&self.stack, at);
         Some(&items[leaf.start..leaf.start + leaf.count])
     }

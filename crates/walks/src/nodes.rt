@@ -1,13 +1,6 @@
-// The nodes of a tree, and where a walk over them is.
-ghost use Rattle.std.specs.Prelude.{◌≡◌, ◌+◌, ◌*◌, ◌<◌, length, get_or};
+// Where a walk over the nodes of a tree is.
+ghost use Rattle.std.specs.Prelude.{◌≡◌, ◌<◌};
 ghost use Rattle.walks.specs.Stacks as Stacks;
-
-// A leaf's first item place and its number of items, or an inner node's right child and 0.
-#[derive(Clone, Copy)]
-pub struct Node {
-    pub start: usize,
-    pub count: usize,
-}
 
 // Where a walk is: at the root of a subtree that is to be visited, with so many to come, this one included. The roots of
 // the others are on the walk's stack, the next one at place `height - 1`; place 0 has the number of nodes.
@@ -15,17 +8,6 @@ pub struct Node {
 pub struct Place {
     pub node: usize,
     pub height: usize,
-}
-
-// Node `n`.
-pub fn node_at(nodes: &[u32], n: usize) -> Node
-    requires { 2 * n + 1 < length nodes.now }
-    ensures { (result.start ≡ get_or nodes.now (2 * n) 0) × (result.count ≡ get_or nodes.now (2 * n + 1) 0) }
-{
-    Node {
-        start: nodes[2 * n] as usize,
-        count: nodes[2 * n + 1] as usize,
-    }
 }
 
 // One more, or not.
