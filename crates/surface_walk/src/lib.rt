@@ -2,16 +2,14 @@
 // walks, specs/Walks.antt.
 #![tactic(auto)]
 
-ghost use Rattle.std.specs.Prelude.{◌≡◌, ◌-◌, ◌*◌, ◌<◌, length};
-ghost use Rattle.mesh.specs.Boxes.{Corners};
+ghost use Rattle.std.specs.Prelude.{◌≡◌};
 ghost use Rattle.mesh.specs.Items as Items;
 ghost use Rattle.scan.specs.Scan as Scan;
 ghost use Rattle.walks.specs.Walks as Walks;
 
 use closest::closest_on_triangle;
 use math::{BoundingBox, Vec3};
-use mesh::boxes::{finite_box, vertex};
-use mesh::{AcceptedMesh, Triangle};
+use mesh::AcceptedMesh;
 use tree::{AcceptedTree, node_box};
 use walks::leaves::{Leaves, NodeTest};
 
@@ -31,29 +29,18 @@ impl Touch {
         b.expanded(self.eps).contains(self.point)
     }
 
-    // Whether the point is within `eps` of a triangle.
-    #[tactic(auto, unfolding(scan::specs::Scan::within))]
-    fn within(self, coords: &[f64], t: Triangle) -> bool
-        requires { Corners coords.now t }
-        ensures { result ≡ Scan.within coords.now self.eps self.point t }
-    {
-        let a = vertex(coords, t.a);
-        let b = vertex(coords, t.b);
-        let c = vertex(coords, t.c);
-        closest_on_triangle(self.point, a, b, c)
-            .sub(self.point)
-            .norm()
-            <= self.eps
-    }
-
     // Whether triangle `t` touches the point.
+    #[tactic(auto, unfolding(scan::specs::Scan::touches, scan::specs::Scan::within, mesh::specs::Mesh::own_box), using(mesh::specs::Boxes::points_box))]
     fn touches(self, mesh: &AcceptedMesh, t: u32) -> bool
         requires { Items.Item mesh.now t }
         ensures { result ≡ Scan.touches mesh.now self.eps self.point t }
     {
-        let coords = mesh.coords;
-        let triangle = mesh.triangle(t as usize);
-        self.near_box(finite_box(coords, triangle)) && self.within(coords, triangle)
+        let corners = mesh.corner_points(t);
+        self.near_box(corners.own_box())
+            && closest_on_triangle(self.point, corners)
+                .sub(self.point)
+                .norm()
+                <= self.eps
     }
 
     // Whether one of these triangles does.
@@ -61,12 +48,7 @@ impl Touch {
         requires { Items.Items mesh.now items.now }
         ensures { result ≡ Scan.some (Scan.touches mesh.now self.eps self.point) items.now }
     {
-        for t in items {
-            if self.touches(mesh, *t) {
-                return true;
-            }
-        }
-        false
+        items.iter().any(|t| self.touches(mesh, *t))
     }
 }
 
@@ -83,8 +65,7 @@ pub fn surface_walk(tree: &AcceptedTree, touch: Touch) -> bool
     ensures { result ≡ Walks.walk_touches tree.now.mesh tree.now.tree touch.eps touch.point }
 {
     let mesh = &tree.mesh;
-    let mut leaves = Leaves::new(tree, &touch);
-    while let Some(items) = leaves.next() {
+    for items in Leaves::new(tree, &touch) {
         if touch.touches_some(mesh, items) {
             return true;
         }
