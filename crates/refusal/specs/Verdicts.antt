@@ -30,6 +30,11 @@ abbrev pub returned : Verdict → ℕ → ℕ
 returned (Ok passed) answer = answer
 returned (Err refusal) answer = code refusal
 
+-- the same of what was answered: the number, or the refusal's
+abbrev pub number_of : Result ℕ Refusal → ℕ
+number_of (Ok answer) = answer
+number_of (Err refusal) = code refusal
+
 -- what is written into a buffer: nothing if a question refuses
 unfoldable pub written : {A : Type 0} → Verdict → List A → List A
 written (Ok passed) list = list

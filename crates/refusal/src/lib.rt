@@ -4,8 +4,10 @@
 
 ghost use Rattle.std.specs.Prelude.{◌≡◌};
 ghost use Rattle.refusal.specs.Numbers as Numbers;
+ghost use Rattle.refusal.specs.Verdicts as Verdicts;
 
-#[derive(Clone, Copy)]
+// It has no Display: its text is the header of a listing, two fields of fixed widths, which crate `listing` writes.
+#[derive(Clone, Copy, Debug)]
 pub enum Refusal {
     // The coordinate list is no whole number of vertices, or has too many.
     Coordinates,
@@ -59,25 +61,27 @@ impl Refusal {
         ensures { result ≡ Numbers.place self }
     {
         match self {
-            Refusal::Coordinates => 0,
-            Refusal::Faces => 0,
-            Refusal::ShortFace(face) => face,
-            Refusal::CornerOut(face) => face,
-            Refusal::NotFinite(vertex) => vertex,
-            Refusal::Room => 0,
-            Refusal::Tree => 0,
-            Refusal::PointList => 0,
-            Refusal::Point(point) => point,
-            Refusal::ShapeNumber => 0,
-            Refusal::Entries => 0,
-            Refusal::Line(line) => line,
+            Refusal::ShortFace(place)
+            | Refusal::CornerOut(place)
+            | Refusal::NotFinite(place)
+            | Refusal::Point(place)
+            | Refusal::Line(place) => place,
+            _ => 0,
         }
     }
 
     // What a C function returns for it.
+    #[tactic(auto, using(crate::specs::Numbers::number_le))]
     pub fn code(self) -> u64
         ensures { result ≡ Numbers.code self }
     {
-        self.number() * 1_000_000 + self.place() as u64
+        self.number() * 1_000_000 + u64::from(self.place())
     }
+}
+
+// What a C function returns: the value, or the refusal's code.
+pub fn returned(answer: Result<u64, Refusal>) -> u64
+    ensures { result ≡ Verdicts.number_of answer }
+{
+    answer.unwrap_or_else(|refusal| refusal.code())
 }
