@@ -23,7 +23,7 @@ fn skip_blanks(field: &[u8]) -> usize
 fn all_digits(bytes: &[u8]) -> bool
     ensures { result ≡ Fields.all_digits bytes.now }
 {
-    bytes.iter().all(|b| (48 <= *b) & (*b <= 57))
+    bytes.iter().all(|b| b.is_ascii_digit())
 }
 
 // The number that digits say.
@@ -33,7 +33,7 @@ fn value_of(digits: &[u8]) -> u64
 {
     let mut read: u64 = 0;
     for digit in digits {
-        read = read * 10 + u64::from(*digit - 48);
+        read = read * 10 + u64::from(*digit - b'0');
     }
     read
 }
@@ -43,11 +43,10 @@ fn value_of(digits: &[u8]) -> u64
 fn is_whole(bytes: &[u8]) -> bool
     ensures { result ≡ Fields.is_whole bytes.now }
 {
-    let n = bytes.len();
-    if n == 0 {
-        return false;
+    match bytes {
+        [] => false,
+        [first, rest @ ..] => all_digits(bytes) & (rest.is_empty() | (*first != b'0')),
     }
-    all_digits(bytes) & ((n == 1) | (bytes[0] != 48))
 }
 
 // The digits of a number, negative or not.
@@ -60,10 +59,7 @@ fn magnitude_of(negative: bool, bytes: &[u8]) -> Option<Number>
         return None;
     }
     let magnitude = value_of(bytes);
-    if negative & (magnitude == 0) {
-        return None;
-    }
-    Some(Number {
+    (!(negative & (magnitude == 0))).then_some(Number {
         negative,
         magnitude,
     })
@@ -74,14 +70,11 @@ pub fn read_field(field: &[u8]) -> Option<Number>
     requires { length field.now ≤ 18 }
     ensures { result ≡ Fields.field_of field.now }
 {
-    let i = skip_blanks(field);
-    if i == field.len() {
-        return None;
+    match &field[skip_blanks(field)..] {
+        [] => None,
+        [b'-', digits @ ..] => magnitude_of(true, digits),
+        digits => magnitude_of(false, digits),
     }
-    if field[i] == b'-' {
-        return magnitude_of(true, &field[i + 1..]);
-    }
-    magnitude_of(false, &field[i..])
 }
 
 // Writes a number at the end of a field, with blanks before it.
@@ -91,7 +84,7 @@ pub fn write_field(n: u64, field: &mut [u8])
     let mut rest = n;
     // By place: no element says where the blanks in front of it end.
     for i in (0..field.len()).rev() {
-        field[i] = 48 + (rest % 10) as u8;
+        field[i] = b'0' + (rest % 10) as u8;
         rest /= 10;
         if rest == 0 {
             field[..i].fill(b' ');
