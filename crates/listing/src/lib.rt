@@ -14,7 +14,7 @@ fn write_line(width: usize, a: u64, b: u64, line: &mut [u8])
 {
     write_field(a, &mut line[..width]);
     write_field(b, &mut line[width..9]);
-    line[9] = 10;
+    line[9] = b'\n';
 }
 
 // Writes the header of a listing.

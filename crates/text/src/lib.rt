@@ -16,7 +16,7 @@ pub enum Kind {
 }
 
 // How many lines there are of each kind.
-#[derive(Clone, Copy)]
+#[derive(Clone, Copy, Default)]
 pub struct Counts {
     pub vertices: usize,
     pub triangles: usize,
@@ -75,15 +75,11 @@ fn judge_line(line: &[u8]) -> Option<Kind>
     ensures { result ≡ Lines.kind_of line.now }
 {
     let line = line.as_array::<36>()?;
-    if line[35] != 10 {
+    if line[35] != b'\n' {
         return None;
     }
     let kind = kind_named(read_field(&line[..2]))?;
-    if numbers_fit(kind, line) {
-        Some(kind)
-    } else {
-        None
-    }
+    numbers_fit(kind, line).then_some(kind)
 }
 
 // How many lines were counted.
@@ -138,11 +134,7 @@ pub fn judge_text(text: &[u8], first: u32) -> Result<Counts, u32>
     requires { first + 1024 < 4294967296 }
     ensures { result ≡ Lines.judge first Lines.none (Lines.lines text.now) }
 {
-    let mut counts = Counts {
-        vertices: 0,
-        triangles: 0,
-        points: 0,
-    };
+    let mut counts = Counts::default();
     for line in text.chunks(36) {
         match judge_line(line) {
             Some(kind) if may_follow(counts, kind) => counts = counted(counts, kind),
