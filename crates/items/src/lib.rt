@@ -12,6 +12,7 @@ fn count_items(items: &[u32], counts: &mut [u64])
 {
     for item in items {
         let k = *item as usize;
+        // No `get_mut`: its contract does not say what the counts end as.
         if k < counts.len() {
             counts[k] += 1;
         }
