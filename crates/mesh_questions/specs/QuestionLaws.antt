@@ -1,6 +1,7 @@
 -- The laws by which a loop over a list's places computes the definitions of the questions.
-use Rattle.std.specs.Prelude.{ℕ, suc, ◌+◌, ◌-◌, ◌*◌, ◌≤◌, ◌<◌, ◌≡◌, refl, Bool, true, false, cond, ◌&&◌, List, [], ◌∷◌, leb, ltb, Float, length, get_or, take, drop, Option, Some, None, Err}
+use Rattle.std.specs.Prelude.{ℕ, suc, ◌+◌, ◌-◌, ◌*◌, ◌≤◌, ◌<◌, ◌≡◌, refl, Bool, true, false, cond, ◌&&◌, List, [], ◌∷◌, leb, ltb, Float, length, get_or, take, drop, Option, Some, None, Err, MatchOption, IsErrAnd}
 use Rattle.std.proofs.Common.{add-one, arith, sym, ◌∙◌, drop-cons, leb-true, eqb-true, ltb-true, ltb-false, lt-ltb, le-ltb}
+use Rattle.std.proofs.lemmas.Result.{err_from_is_err_and}
 use Rattle.math.specs.declared.Vec3.{Vec3}
 use Rattle.math.specs.Vectors as Vectors
 use Rattle.refusal.specs.declared.Refusal.{Refusal}
@@ -72,3 +73,13 @@ ask_finite_first refusal number (v ∷ rest) = go (Vectors.is_finite v) (ask_fin
         → then (ask finite (refusal number)) (ask_finite refusal (number + 1) rest) ≡ refused_at refusal (cond finite (first_not_finite (number + 1) rest) (Some number))
     go true next = next
     go false next = refl
+
+-- a verdict that is none where all vectors are finite, and else the refusal of the first that is not, is the question's
+pub ask_finite_found : (refusal : ℕ → Refusal) (vectors : List Vec3) (verdict : Verdict) → MatchOption (first_not_finite 0 vectors) (verdict ≡ Passed) (λ number. IsErrAnd verdict (λ said. said ≡ refusal number)) → verdict ≡ ask_finite refusal 0 vectors
+ask_finite_found refusal vectors verdict found = go (first_not_finite 0 vectors) found ∙ sym (ask_finite_first refusal 0 vectors)
+  where
+    go : (first : Option ℕ) → MatchOption first (verdict ≡ Passed) (λ number. IsErrAnd verdict (λ said. said ≡ refusal number)) → verdict ≡ refused_at refusal first
+    go None e = e
+    go (Some number) e =
+        let p = err_from_is_err_and verdict e in
+        rw (p.1, p.2)

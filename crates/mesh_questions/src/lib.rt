@@ -1,7 +1,7 @@
 // A lent mesh, and document 01's questions 1 to 5 of it. The definitions are in specs/Mesh.antt and specs/Questions.antt.
 #![tactic(auto)]
 
-ghost use Rattle.std.specs.Prelude.{◌≡◌, true, ◌/◌, ◌≤◌, ◌<◌, length, IfSome};
+ghost use Rattle.std.specs.Prelude.{◌≡◌, true, ◌/◌, ◌≤◌, ◌<◌, length, IfSome, IsErrAnd, MatchOption, Ok};
 ghost use Rattle.math.specs.Vectors.{points};
 ghost use Rattle.mesh_questions.specs.Faces.{faces};
 ghost use Rattle.mesh_questions.specs.Mesh as Meshes;
@@ -47,15 +47,7 @@ fn whole_vertices(coords: &[f64]) -> bool
 fn ends_fit(corners: usize, ends: &[u32]) -> bool
     ensures { result ≡ Questions.ends_fit 0 corners ends.now }
 {
-    let mut before = 0;
-    for end in ends {
-        let end = *end as usize;
-        if end < before {
-            return false;
-        }
-        before = end;
-    }
-    before == corners
+    ends.is_sorted() && ends.last().copied().unwrap_or(0) as usize == corners
 }
 
 // Question 2: are there at most 65,536 faces and as many corners as the limit, and do the face ends fit?
@@ -76,12 +68,7 @@ fn faces_fit(limit: usize, corners: &[u32], ends: &[u32]) -> bool
 fn all_below(vertices: usize, face: &[u32]) -> bool
     ensures { result ≡ Questions.all_below vertices face.now }
 {
-    for corner in face {
-        if *corner as usize >= vertices {
-            return false;
-        }
-    }
-    true
+    face.iter().all(|corner| (*corner as usize) < vertices)
 }
 
 // Questions 3 and 4 of one face.
@@ -89,12 +76,10 @@ fn all_below(vertices: usize, face: &[u32]) -> bool
 fn ask_face(vertices: usize, number: u32, face: &[u32]) -> Result<(), Refusal>
     ensures { result ≡ Questions.ask_face vertices number face.now }
 {
-    let wide = face.len() >= 3;
-    let below = all_below(vertices, face);
-    if !wide {
+    if face.len() < 3 {
         return Err(Refusal::ShortFace(number));
     }
-    if !below {
+    if !all_below(vertices, face) {
         return Err(Refusal::CornerOut(number));
     }
     Ok(())
@@ -123,15 +108,24 @@ pub fn first_not_finite(list: &[f64]) -> Option<usize>
     points.iter().position(|p| !Vec3::at(p, 0).is_finite())
 }
 
+// Is each point of a list finite? If not, the refusal that the caller names for the first that is not.
+pub fn ask_finite<F: FnOnce(u32) -> Refusal>(list: &[f64], refusal: F) -> Result<(), Refusal>
+    requires few { length list.now ≤ 196608 }
+    requires callable { F.IsAlwaysCallable refusal }
+    ensures { MatchOption (QuestionLaws.first_not_finite 0 (points list.now)) (result ≡ Ok tt) (λ i. IsErrAnd result (F.post refusal i)) }
+{
+    match first_not_finite(list) {
+        Some(i) => Err(refusal(i as u32)),
+        None => Ok(()),
+    }
+}
+
 // Question 5: is each coordinate finite?
 pub fn ask_vertices(coords: &[f64]) -> Result<(), Refusal>
     requires { length coords.now ≤ 196608 }
     ensures { result ≡ Questions.ask_vertices 0 (points coords.now) }
 {
-    match first_not_finite(coords) {
-        Some(vertex) => Err(Refusal::NotFinite(vertex as u32)),
-        None => Ok(()),
-    }
+    ask_finite(coords, Refusal::NotFinite)
 }
 
 impl<'a> Mesh<'a> {

@@ -1,25 +1,17 @@
-use native.Mathlib.Omega.{arith}
-use mathlib.Core.Path.{◌≡◌, sym, ◌∙◌}
-use mathlib.Core.Bool.{true, false}
-use lib.Dec.{ltb}
-use lib.ListN.{get_or, drop_of_length-le}
-use borrow.Author.Tests.{lt-ltb, le-ltb}
+-- `all_below` meets its contract: the method tests each corner.
+use Rattle.std.proofs.Common.{◌≡◌, ℕ, List, [], ◌∷◌, ltb, refl, ◌∙◌, rules, tests}
+use Rattle.std.specs.List.{list_all}
+use Rattle.std.proofs.lemmas.Iterator.{YieldsList-from_slice}
+use Rattle.std.proofs.lemmas.Iterator.Search.{all_from_yields_List}
 use Rattle.mesh_questions.specs.Questions.{all_below}
-use Rattle.mesh_questions.specs.QuestionLaws.{all_below_next}
 use Rattle.mesh_questions.proofs.all_below.Goals as goal
 
-pub returns-then-corner-vertices : goal.returns-then-corner-vertices
-returns-then-corner-vertices c =
-    let i = c.loop-corner.corner-index in
-    let out : ltb (get_or c.args.face.now i 0) c.args.vertices ≡ false = le-ltb _ _ c.if-corner-vertices.true in
-    sym (all_below_next c.args.vertices c.args.face.now i (omega arith) ∙ rw out) ∙ c.loop-corner.invariant
-
-pub loop-corner-preserved : goal.loop-corner-preserved
-loop-corner-preserved c =
-    let i = c.loop-corner.corner-index in
-    let below : ltb (get_or c.args.face.now i 0) c.args.vertices ≡ true = lt-ltb _ _ c.if-corner-vertices.false in
-    rw below at (sym (all_below_next c.args.vertices c.args.face.now i (omega arith))) ∙ c.loop-corner.invariant
+each_below : (vertices : ℕ) (face : List ℕ) → list_all (λ x. ltb x vertices) face ≡ all_below vertices face
+unfolding all_below
+each_below vertices [] = refl
+each_below vertices (x ∷ face) = rw (each_below vertices face)
 
 pub returns : goal.returns
-unfolding all_below
-returns c = rw (drop_of_length-le c.args.face.now {i = c.loop-corner.corner-index} (omega arith)) at c.loop-corner.invariant
+returns c =
+    let face = c.args.face.now in
+    all_from_yields_List (λ x. ltb x c.args.vertices) _ _ _ c.all.ensures.ran (YieldsList-from_slice face cc) (λ x b q k. search (rules, tests)) ∙ each_below c.args.vertices face
