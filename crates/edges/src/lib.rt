@@ -31,7 +31,8 @@ fn face_keys(face: &[u32], work: &mut [u64])
     }
 }
 
-// Writes the keys of all edges, one a corner, face after face.
+// Writes the keys of all edges, one a corner, face after face. Here and below `corners` and `ends` are no struct: each
+// function asks another fact of them, and an accepted mesh would ask more of its callers.
 fn fill_keys(corners: &[u32], ends: &[u32], work: &mut [u64])
     requires ends_value { ends_fit 0 (length corners.now) ends.now ≡ true }
     requires corners_in_bounds { length corners.now ≤ length work.old }
@@ -57,20 +58,11 @@ pub fn edge_keys(corners: &[u32], ends: &[u32], work: &mut [u64])
     keys::sort(&mut work[..n]);
 }
 
-// Whether the keys, in ascending order, stand in pairs: each exactly twice. A turn takes a pair off the
-// front and looks at the key behind it, which no iterator of pairs shows.
-#[tactic(auto, unfolding(crate::specs::Pairs::in_pairs, crate::specs::Pairs::starts_with))]
+// Whether the keys, in ascending order, stand in pairs: each exactly twice.
 fn in_pairs(keys: &[u64]) -> bool
     ensures { result ≡ in_pairs keys.now }
 {
-    let mut left = keys;
-    while let [key, second, rest @ ..] = left {
-        if second != key || rest.first() == Some(key) {
-            return false;
-        }
-        left = rest;
-    }
-    left.is_empty()
+    keys.chunk_by(|a, b| a == b).all(|run| run.len() == 2)
 }
 
 // Whether a mesh is closed: it has so many faces, and these are the keys of its edges in ascending
