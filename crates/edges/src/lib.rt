@@ -67,6 +67,7 @@ fn in_pairs(keys: &[u64]) -> bool
 
 // Whether a mesh is closed: it has so many faces, and these are the keys of its edges in ascending
 // order (`closed_keys_closed` in specs/PairLaws.antt).
+#[tactic(auto, unfolding(crate::specs::Pairs::closed_keys))]
 pub fn is_closed(faces: usize, keys: &[u64]) -> bool
     ensures { result ≡ closed_keys faces keys.now }
 {
