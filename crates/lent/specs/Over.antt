@@ -93,6 +93,13 @@ module _ {A : Type 0} where
       let long : length (take n old ++ more) ≡ n + length more = simp length-append (rw (length-take-le n old (omega arith))) in
       rw long (sym (sets-eq more old n h))
 
+  -- and so is a part of the buffer that is written behind the front
+  pub over_part : (n width : ℕ) (old part more : List A) → n + length more ≤ length old → width ≡ length more → part ≡ more → take n old ++ (part ++ drop width (drop n old)) ≡ over (take n old ++ more) old
+  unfolding over
+  over_part n width old part more h wide same =
+      let long : length (take n old ++ more) ≡ n + length more = simp length-append (rw (length-take-le n old (omega arith))) in
+      rw (same, wide, drop-drop, long) (sym (append_assoc (take n old) more (drop (n + length more) old)))
+
   -- three of them
   pub over_three : (n : ℕ) (old : List A) (x y z : A) → n + 2 < length old → over (take n old ++ (x ∷ y ∷ z ∷ [])) old ≡ set (set (set old n x) (n + 1) y) (n + 2) z
   over_three n old x y z h =

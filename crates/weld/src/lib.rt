@@ -30,7 +30,8 @@ fn find_vertex(vertices: &[f64], p: Vec3) -> Option<usize>
         .position(|[x, y, z]| *x == p.x && *y == p.y && *z == p.z)
 }
 
-// The number of `p` among the first `count` vertices, behind which it is written unless one is the same.
+// The number of `p` among the first `count` vertices, behind which it is written unless one is the same. Here and below a
+// list and how much of it is written are two parameters: lists are lent at a fixed length, and no heap gives a Vec.
 fn add_vertex(coords: &mut [f64], count: &mut usize, p: Vec3) -> u32
     requires count_in_bounds { 3 * count.old + 2 < length coords.old }
     requires count_bound { count.old < 65536 }
@@ -40,9 +41,7 @@ fn add_vertex(coords: &mut [f64], count: &mut usize, p: Vec3) -> u32
     if let Some(found) = find_vertex(&coords[..3 * n], p) {
         return found as u32;
     }
-    coords[3 * n] = p.x;
-    coords[3 * n + 1] = p.y;
-    coords[3 * n + 2] = p.z;
+    coords[3 * n..3 * n + 3].copy_from_slice(&[p.x, p.y, p.z]);
     *count = n + 1;
     n as u32
 }
@@ -70,9 +69,7 @@ fn keep_triangle(t: Triangle, corners: &mut [u32], ends: &mut [u32], count: &mut
         return;
     }
     let n = *count;
-    corners[3 * n] = t.a;
-    corners[3 * n + 1] = t.b;
-    corners[3 * n + 2] = t.c;
+    corners[3 * n..3 * n + 3].copy_from_slice(&[t.a, t.b, t.c]);
     ends[n] = (3 * n + 3) as u32;
     *count = n + 1;
 }

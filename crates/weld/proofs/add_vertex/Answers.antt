@@ -1,12 +1,12 @@
--- `add_vertex` meets its contract: if p is found the buffer stays as it is (`adds_found`); else three stores write p behind the vertices
+-- `add_vertex` meets its contract: if p is found the buffer stays as it is (`adds_found`); else p is written behind the vertices
 -- (`adds_new`).
 use Prim.Native.Nat.{ℕ, ◌+◌, ◌*◌, ◌<◌}
 use native.Mathlib.Omega.{arith}
 use mathlib.Core.Path.{◌≡◌, sym}
-use mathlib.Core.List.{List}
+use mathlib.Core.List.{List, [], ◌∷◌, ◌++◌}
 use lib.Ieee.{Float}
-use lib.ListN.{length, set, length-append}
-use Rattle.lent.specs.Over.{over_three}
+use lib.ListN.{length, take, drop, length-append}
+use Rattle.lent.specs.Over.{over_part}
 use Rattle.math.specs.declared.Vec3.{Vec3}
 use Rattle.weld.specs.Welding.{find, numbers}
 use Rattle.weld.specs.Steps.{first, Adds}
@@ -23,14 +23,14 @@ module _ (n : ℕ) (l : List Float) (p : Vec3) (room : 3 * n + 2 < length l) whe
       let same = add_found (first n l) p (omega arith) in
       record { number = e; count = rw same (sym all); coords = rw same (sym (over_first n l (omega arith))) }
 
-  adds_new : find (first n l) p ≡ length (first n l) → Adds (first n l) l p n (n + 1) (set (set (set l (3 * n) p.x) (3 * n + 1) p.y) (3 * n + 2) p.z)
+  adds_new : (width : ℕ) (part : List Float) → width ≡ 3 → part ≡ p.x ∷ p.y ∷ p.z ∷ [] → find (first n l) p ≡ length (first n l) → Adds (first n l) l p n (n + 1) (take (3 * n) l ++ (part ++ drop width (drop (3 * n) l)))
   unfolding numbers
-  adds_new e =
+  adds_new width part wide same e =
       let more = add_new (first n l) p e in
       record {
         number = omega (arith, all);
         count = rw (more, length-append) (omega (arith, all));
-        coords = rw (more, numbers_append, numbers_first n l (omega arith)) (sym (over_three (3 * n) l p.x p.y p.z room));
+        coords = rw (more, numbers_append, numbers_first n l (omega arith)) (over_part (3 * n) width l part (p.x ∷ p.y ∷ p.z ∷ []) (omega arith) wide same);
       }
 
 pub overflow_cast-result : goal.overflow_cast-result
@@ -47,4 +47,4 @@ pub returns : goal.returns
 unfolding first
 returns c =
     let a = c.args in
-    adds_new a.count.now a.coords.now a.p (omega arith) (rw c.in_default.is at c.find_vertex.ensures)
+    adds_new a.count.now a.coords.now a.p (omega arith) _ _ (omega arith) c.copy_from_slice.ensures.after (rw c.in_default.is at c.find_vertex.ensures)
