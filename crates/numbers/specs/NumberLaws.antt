@@ -15,7 +15,7 @@ use Rattle.math.specs.Vectors.{points}
 use Rattle.refusal.specs.declared.Refusal.{Refusal}
 use Rattle.mesh_questions.specs.Questions.{ask_finite}
 use Rattle.lent.specs.ReorderedLaws.{Every, every_at}
-use Rattle.lent.specs.Over.{over, over_behind, over_three, over_next, length_over}
+use Rattle.lent.specs.Over.{over, over_behind, over_part, over_three, over_next, length_over}
 use Rattle.fields.specs.declared.Number.{Number}
 use Rattle.fields.specs.Fields.{number}
 use Rattle.text.specs.Lines.{number_at, lines_of, lines, is_count, all_three}
@@ -77,6 +77,17 @@ module _ {A : Type 0} (become : Option Number → A) where
       let long : 3 * i ≡ length done = omega (arith, length_numbers (take i (lines text)), few) in
       let stored = over_three (3 * i) (over done old) a b c (omega (arith, length_over done old (omega (arith, long)))) in
       rw (numbers_next text i h) (sym stored ∙ over_behind (3 * i) done (a ∷ b ∷ c ∷ []) old long)
+
+  -- and so are they where they are written as one part of the list
+  pub numbers_written : (text : List ℕ) (i : ℕ) (old : List A) (width : ℕ) (part : List A) → 36 * i < length text → 3 * i + 2 < length old → width ≡ 3
+      → part ≡ become (number_at 0 (line_at text i)) ∷ become (number_at 1 (line_at text i)) ∷ become (number_at 2 (line_at text i)) ∷ []
+      → take (3 * i) (over (numbers_of become (take i (lines text))) old) ++ (part ++ drop width (drop (3 * i) (over (numbers_of become (take i (lines text))) old))) ≡ over (numbers_of become (take (i + 1) (lines text))) old
+  numbers_written text i old width part h k wide same =
+      let done = numbers_of become (take i (lines text)) in
+      let few = length-take-le i (lines text) (omega (arith, length_lines text)) in
+      let long : 3 * i ≡ length done = omega (arith, length_numbers (take i (lines text)), few) in
+      let room = length_over done old (omega (arith, long)) in
+      over_part (3 * i) width (over done old) part _ (omega (arith, room)) wide same ∙ over_three (3 * i) (over done old) _ _ _ (omega (arith, room)) ∙ numbers_stored text i old h k
 
 -- one more triangle has three more corners
 pub ends_next : (corners i : ℕ) → ends_from corners (i + 1) ≡ ends_from corners i ++ ((corners + 3 * i + 3) ∷ [])

@@ -35,10 +35,7 @@ impl Cell for f64 {
             None => 0.0,
             Some(count) => {
                 let size = count.magnitude as f64;
-                if count.negative {
-                    return -size;
-                }
-                size
+                if count.negative { -size } else { size }
             }
         }
     }
@@ -52,10 +49,7 @@ impl Cell for u32 {
 
     #[tactic(auto, unfolding(text::specs::Lines::is_corner, crate::specs::Numbers::corner_of))]
     fn of(number: Option<Number>) -> u32 {
-        match number {
-            None => 0,
-            Some(corner) => corner.magnitude as u32,
-        }
+        number.map_or(0, |corner| corner.magnitude as u32)
     }
 }
 
@@ -65,10 +59,13 @@ pub fn fill<T: Cell>(text: &[u8], list: &mut [T])
     ensures { list.new ≡ over (Numbers.numbers_of T.becomes (Lines.lines text.now)) list.old }
 {
     let (lines, _) = text.as_chunks::<36>();
+    // Places by number: of what `chunks_exact_mut` lends, a proof knows the length alone.
     for (i, line) in lines.iter().enumerate() {
-        list[3 * i] = T::of(number_at(line, 0));
-        list[3 * i + 1] = T::of(number_at(line, 1));
-        list[3 * i + 2] = T::of(number_at(line, 2));
+        list[3 * i..3 * i + 3].copy_from_slice(&[
+            T::of(number_at(line, 0)),
+            T::of(number_at(line, 1)),
+            T::of(number_at(line, 2)),
+        ]);
     }
 }
 

@@ -4,7 +4,7 @@ use Rattle.lent.specs.Over.{over_nothing}
 use Rattle.text.specs.Lines.{lines}
 use Rattle.text.specs.LineLaws.{length_lines}
 use Rattle.numbers.specs.Numbers.{numbers_of}
-use Rattle.numbers.specs.NumberLaws.{chunk_at, chunk_passes, numbers_stored}
+use Rattle.numbers.specs.NumberLaws.{chunk_at, chunk_passes, numbers_written}
 use Rattle.numbers.proofs.fill.Goals as goal
 
 pub loop-i-init : goal.loop-i-init
@@ -29,8 +29,8 @@ loop-i-preserved g c =
     let text = c.args.text.now in
     let old = c.args.list.now in
     let line = chunk_at text _ i c.as_chunks.ensures.front c.requires.whole (omega (arith, c.as_chunks.ensures.front_len)) in
-    let stored = numbers_stored g.T.Cell.becomes text i old (omega (arith, c.requires.whole, c.as_chunks.ensures.front_len)) (omega (arith, c.requires.room, c.as_chunks.ensures.front_len)) in
-    rw (c.of.ensures, c.of-in-loop-i.ensures, c.of-in-loop-i-2.ensures, c.number_at.ensures, c.number_at-in-loop-i.ensures, c.number_at-in-loop-i-2.ensures, line, c.loop-i.invariant) stored
+    let part = rw (c.of.ensures, c.of-in-loop-i.ensures, c.of-in-loop-i-2.ensures, c.number_at.ensures, c.number_at-in-loop-i.ensures, c.number_at-in-loop-i-2.ensures, line) at c.copy_from_slice.ensures.after in
+    rw c.loop-i.invariant (numbers_written g.T.Cell.becomes text i old _ _ (omega (arith, c.requires.whole, c.as_chunks.ensures.front_len)) (omega (arith, c.requires.room, c.as_chunks.ensures.front_len)) (omega arith) part)
 
 pub returns : goal.returns
 returns g c =
