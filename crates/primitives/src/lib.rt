@@ -6,7 +6,7 @@ ghost use Rattle.std.specs.Prelude.{◌≡◌, ◌<◌, IfSome};
 ghost use Rattle.primitives.specs.Questions as Questions;
 
 use math::Vec3;
-use refusal::Refusal;
+use refusal::{Refusal, returned};
 use shapes::Shape;
 
 // What a C function returns for an answer: 0 outside, 1 inside, or the refusal's number × 1,000,000 plus its
@@ -14,10 +14,7 @@ use shapes::Shape;
 pub fn value(answer: Result<bool, Refusal>) -> u64
     ensures { result ≡ Questions.value answer }
 {
-    match answer {
-        Ok(inside) => u64::from(inside),
-        Err(refusal) => refusal.code(),
-    }
+    returned(answer.map(|inside| u64::from(inside)))
 }
 
 // The numbers of an entry of the shape's list, for the shapes that question 11 asks.
@@ -45,10 +42,7 @@ fn entry_size(shape: Shape) -> Option<usize>
 fn whole_entries(shape: Shape, list: &[f64]) -> bool
     ensures { result ≡ Questions.whole_entries shape list.now }
 {
-    match entry_size(shape) {
-        Some(size) => (list.len() % size == 0) & (list.len() / size <= 4096),
-        None => true,
-    }
+    entry_size(shape).is_none_or(|size| (list.len() % size == 0) & (list.len() / size <= 4096))
 }
 
 // Whether every number of the list is finite.
