@@ -23,11 +23,11 @@ struct Products {
 fn products_of(p: Vec3, t: CornerPoints) -> Products
     ensures { result ≡ Closest.products_of p t.a t.b t.c }
 {
-    let ab = t.b.sub(t.a);
-    let ac = t.c.sub(t.a);
-    let ap = p.sub(t.a);
-    let bp = p.sub(t.b);
-    let cp = p.sub(t.c);
+    let ab = t.b - t.a;
+    let ac = t.c - t.a;
+    let ap = p - t.a;
+    let bp = p - t.b;
+    let cp = p - t.c;
     Products {
         d1: ab.dot(ap),
         d2: ac.dot(ap),
@@ -43,7 +43,7 @@ fn products_of(p: Vec3, t: CornerPoints) -> Products
 fn along(a: Vec3, d: Vec3, t: f64) -> Vec3
     ensures { result ≡ Closest.along a d t }
 {
-    a.add(d.mul(t))
+    a + d * t
 }
 
 // The nearest point where it lies inside the triangle.
@@ -58,7 +58,7 @@ fn inner(t: CornerPoints, d: Products) -> Vec3
     if denom == 0.0 {
         return t.a;
     }
-    along(t.a, t.b.sub(t.a), vb / denom).add(t.c.sub(t.a).mul(vc / denom))
+    along(t.a, t.b - t.a, vb / denom) + (t.c - t.a) * (vc / denom)
 }
 
 // The nearest point: a corner, on an edge, or inside, the first whose test holds.
@@ -74,20 +74,20 @@ fn nearest(t: CornerPoints, d: Products) -> Vec3
     }
     let vc = d.d1 * d.d4 - d.d3 * d.d2;
     if (vc <= 0.0) & (d.d1 >= 0.0) & (d.d3 <= 0.0) {
-        return along(t.a, t.b.sub(t.a), d.d1 / (d.d1 - d.d3));
+        return along(t.a, t.b - t.a, d.d1 / (d.d1 - d.d3));
     }
     if (d.d6 >= 0.0) & (d.d5 <= d.d6) {
         return t.c;
     }
     let vb = d.d5 * d.d2 - d.d1 * d.d6;
     if (vb <= 0.0) & (d.d2 >= 0.0) & (d.d6 <= 0.0) {
-        return along(t.a, t.c.sub(t.a), d.d2 / (d.d2 - d.d6));
+        return along(t.a, t.c - t.a, d.d2 / (d.d2 - d.d6));
     }
     let va = d.d3 * d.d6 - d.d5 * d.d4;
     let from_b = d.d4 - d.d3;
     let from_c = d.d5 - d.d6;
     if (va <= 0.0) & (from_b >= 0.0) & (from_c >= 0.0) {
-        return along(t.b, t.c.sub(t.b), from_b / (from_b + from_c));
+        return along(t.b, t.c - t.b, from_b / (from_b + from_c));
     }
     inner(t, d)
 }

@@ -119,7 +119,7 @@ pub fn mesh_box(coords: &[f64]) -> BoundingBox
     let (vertices, _) = coords.as_chunks::<3>();
     vertices
         .iter()
-        .fold(BoundingBox::empty(), |b, v| { b.include(Vec3::at(v, 0)) })
+        .fold(BoundingBox::empty(), |b, v| { b.include(Vec3::from(*v)) })
 }
 
 // The tolerance of the surface test of a mesh with this box.

@@ -105,7 +105,7 @@ pub fn first_not_finite(list: &[f64]) -> Option<usize>
     ensures within { IfSome result (λ i. i < length list.now / 3) }
 {
     let (points, _) = list.as_chunks::<3>();
-    points.iter().position(|p| !Vec3::at(p, 0).is_finite())
+    points.iter().position(|p| !Vec3::from(*p).is_finite())
 }
 
 // Is each point of a list finite? If not, the refusal that the caller names for the first that is not.

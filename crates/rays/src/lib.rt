@@ -88,12 +88,12 @@ fn parallel(det: f64, e1: Vec3, e2: Vec3) -> bool
 pub fn ray_triangle(o: Vec3, d: Vec3, t: CornerPoints) -> RayHit
     ensures { result ≡ Rays.ray_triangle o d t.a t.b t.c }
 {
-    let e1 = t.b.sub(t.a);
-    let e2 = t.c.sub(t.a);
+    let e1 = t.b - t.a;
+    let e2 = t.c - t.a;
     let h = d.cross(e2);
     let det = e1.dot(h);
     let f = 1.0 / det;
-    let s = o.sub(t.a);
+    let s = o - t.a;
     let u = f * s.dot(h);
     if !((MINUS_RIM <= u) & (u <= ONE_PLUS_RIM)) {
         return RayHit::Miss;
