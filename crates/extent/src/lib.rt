@@ -82,18 +82,6 @@ fn with_center(b: BoundingBox, c: Vec3) -> BoundingBox
     }
 }
 
-// On each axis the lowest and the highest finite centre of the items.
-fn centers_of(mesh: &AcceptedMesh, items: &[u32]) -> BoundingBox
-    requires { Items.Items mesh.now items.now }
-    ensures { result ≡ Extents.with_centers mesh.now Boxes.empty items.now }
-{
-    let mut b = BoundingBox::empty();
-    for t in items {
-        b = with_center(b, mesh.own_box(*t).center());
-    }
-    b
-}
-
 // The axis of greatest size, the last on a tie.
 #[tactic(auto, unfolding(crate::specs::Extent::widest_axis, crate::specs::Extent::wider_axis, math::specs::Vectors::component))]
 fn widest_axis(size: Vec3) -> Axis
@@ -119,19 +107,6 @@ fn middle_rank(centers: BoundingBox, axis: Axis) -> Pivot {
     }
 }
 
-// How a node's items are split, in whatever order they stand.
-pub fn split_of(mesh: &AcceptedMesh, items: &[u32]) -> Split
-    requires { Items.Items mesh.now items.now }
-    ensures { Axes.place result.axis ≡ Builder.split_axis mesh.now (sorted items.now) }
-{
-    let centers = centers_of(mesh, items);
-    let axis = widest_axis(centers.size());
-    Split {
-        axis,
-        pivot: middle_rank(centers, axis),
-    }
-}
-
 // The lowest-numbered item so far whose edge is zero, or item `t` if its edge `e` is zero and it does not come later.
 #[tactic(auto, unfolding(crate::specs::Extent::earlier))]
 fn earlier(found: Option<u32>, t: u32, e: f64) -> Option<u32>
@@ -144,21 +119,6 @@ fn earlier(found: Option<u32>, t: u32, e: f64) -> Option<u32>
     }
 }
 
-// This edge on an axis of the lowest-numbered item in whose own box it is zero; 0 if there is none.
-fn zero_edge(mesh: &AcceptedMesh, items: &[u32], end: End, axis: Axis) -> f64
-    requires { Items.Items mesh.now items.now }
-    ensures { result ≡ Extents.zero_edge (Extents.own_edge mesh.now (Extents.is_upper end) (Axes.place axis)) (sorted items.now) }
-{
-    let mut found = None;
-    for t in items {
-        found = earlier(found, *t, end.edge(axis, mesh.own_box(*t)));
-    }
-    match found {
-        Some(t) => end.edge(axis, mesh.own_box(t)),
-        None => 0.0,
-    }
-}
-
 // Whether two floats are equal as numbers and not the same: zeros of unlike sign.
 #[tactic(auto, unfolding(crate::specs::Extent::unlike))]
 fn unlike(a: f64, b: f64) -> bool
@@ -167,51 +127,91 @@ fn unlike(a: f64, b: f64) -> bool
     (a == b) & (float::order_key(a) != float::order_key(b))
 }
 
-// An edge of the box of items from those of their halves: only of zeros of unlike sign it depends on the
-// items.
-#[tactic(auto, unfolding(crate::specs::Extent::joined_edge))]
-fn joined_edge(mesh: &AcceptedMesh, items: &[u32], end: End, axis: Axis, a: f64, b: f64) -> f64
-    requires { Items.Items mesh.now items.now }
-    ensures { result ≡ Extents.joined_edge mesh.now items.now (Extents.is_upper end) (Axes.place axis) a b }
-{
-    if unlike(a, b) {
-        return zero_edge(mesh, items, end, axis);
-    }
-    end.pick(a, b)
-}
-
-// The three edges at this end.
-#[tactic(auto, unfolding(crate::specs::Extent::joined_end))]
-fn joined_end(mesh: &AcceptedMesh, items: &[u32], end: End, a: Vec3, b: Vec3) -> Vec3
-    requires { Items.Items mesh.now items.now }
-    ensures { result ≡ Extents.joined_end mesh.now items.now (Extents.is_upper end) a b }
-{
-    Vec3 {
-        x: joined_edge(mesh, items, end, Axis::X, a.x, b.x),
-        y: joined_edge(mesh, items, end, Axis::Y, a.y, b.y),
-        z: joined_edge(mesh, items, end, Axis::Z, a.z, b.z),
-    }
-}
-
 // The type of a lent list says that its floats are of the format f64; a mesh's fields are seen as lists without it.
 fn lent_floats(list: &[f64])
     ensures { ExtentLaws.FitFloats list.now }
 {}
 
-// The box of an inner node from those of its halves: the first `half` items, and the others.
-pub fn inner_box(
-    mesh: &AcceptedMesh,
-    items: &[u32],
-    half: usize,
-    left: BoundingBox,
-    right: BoundingBox,
-) -> BoundingBox
-    requires { Items.Items mesh.now items.now × (0 < half) × (half < length items.now) × (left ≡ Builder.node_box mesh.now (sorted (take half items.now))) × (right ≡ Builder.node_box mesh.now (sorted (drop half items.now))) }
-    ensures { result ≡ Builder.node_box mesh.now (sorted items.now) }
-{
-    lent_floats(mesh.coords);
-    BoundingBox {
-        min: joined_end(mesh, items, End::Lower, left.min, right.min),
-        max: joined_end(mesh, items, End::Upper, left.max, right.max),
+// The items of a node, in whatever order they stand: triangles of the mesh.
+#[derive(Clone, Copy)]
+pub struct Node<'m, 'a, 'i> {
+    pub mesh: &'m AcceptedMesh<'a>,
+    pub items: &'i [u32],
+    pub ghost given: { Items.Items mesh.now items.now },
+}
+
+impl<'m, 'a, 'i> Node<'m, 'a, 'i> {
+    // On each axis the lowest and the highest finite centre of the items.
+    fn centers(self) -> BoundingBox
+        ensures { result ≡ Extents.with_centers self.entry.mesh.now Boxes.empty self.entry.items.now }
+    {
+        let mut b = BoundingBox::empty();
+        for t in self.items {
+            b = with_center(b, self.mesh.own_box(*t).center());
+        }
+        b
+    }
+
+    // How the items are split.
+    pub fn split(self) -> Split
+        ensures { Axes.place result.axis ≡ Builder.split_axis self.entry.mesh.now (sorted self.entry.items.now) }
+    {
+        let centers = self.centers();
+        let axis = widest_axis(centers.size());
+        Split {
+            axis,
+            pivot: middle_rank(centers, axis),
+        }
+    }
+
+    // This edge on an axis of the lowest-numbered item in whose own box it is zero; 0 if there is none.
+    fn zero_edge(self, end: End, axis: Axis) -> f64
+        ensures { result ≡ Extents.zero_edge (Extents.own_edge self.entry.mesh.now (Extents.is_upper end) (Axes.place axis)) (sorted self.entry.items.now) }
+    {
+        let mut found = None;
+        for t in self.items {
+            found = earlier(found, *t, end.edge(axis, self.mesh.own_box(*t)));
+        }
+        match found {
+            Some(t) => end.edge(axis, self.mesh.own_box(t)),
+            None => 0.0,
+        }
+    }
+
+    // An edge of the box of the items from those of their halves: only of zeros of unlike sign it depends on the
+    // items.
+    #[tactic(auto, unfolding(crate::specs::Extent::joined_edge))]
+    fn joined_edge(self, end: End, axis: Axis, a: f64, b: f64) -> f64
+        ensures { result ≡ Extents.joined_edge self.entry.mesh.now self.entry.items.now (Extents.is_upper end) (Axes.place axis) a b }
+    {
+        if unlike(a, b) {
+            return self.zero_edge(end, axis);
+        }
+        end.pick(a, b)
+    }
+
+    // The three edges at this end.
+    #[tactic(auto, unfolding(crate::specs::Extent::joined_end))]
+    fn joined_end(self, end: End, a: Vec3, b: Vec3) -> Vec3
+        ensures { result ≡ Extents.joined_end self.entry.mesh.now self.entry.items.now (Extents.is_upper end) a b }
+    {
+        Vec3 {
+            x: self.joined_edge(end, Axis::X, a.x, b.x),
+            y: self.joined_edge(end, Axis::Y, a.y, b.y),
+            z: self.joined_edge(end, Axis::Z, a.z, b.z),
+        }
+    }
+
+    // The box of an inner node from those of its halves: the first `half` items, and the others.
+    pub fn inner_box(self, half: usize, left: BoundingBox, right: BoundingBox) -> BoundingBox
+        requires { (0 < half) × (half < length self.items.now) × (left ≡ Builder.node_box self.mesh.now (sorted (take half self.items.now))) × (right ≡ Builder.node_box self.mesh.now (sorted (drop half self.items.now))) }
+        ensures { result ≡ Builder.node_box self.entry.mesh.now (sorted self.entry.items.now) }
+    {
+        let mesh = self.mesh;
+        lent_floats(mesh.coords);
+        BoundingBox {
+            min: self.joined_end(End::Lower, left.min, right.min),
+            max: self.joined_end(End::Upper, left.max, right.max),
+        }
     }
 }

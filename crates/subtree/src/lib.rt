@@ -11,7 +11,7 @@ ghost use Rattle.builder.specs.Builder as Builder;
 ghost use Rattle.subtree.specs.Subtree.{Room, Writes};
 
 use crate::leaf::sort_items;
-use extent::{inner_box, split_of};
+use extent::Node;
 use math::BoundingBox;
 use median::halve;
 use mesh::AcceptedMesh;
@@ -77,12 +77,12 @@ pub fn build_node(
         return build_leaf(mesh, boxes, nodes, items, n, i);
     }
     let half = items.len() / 2;
-    let split = split_of(mesh, items);
+    let split = Node { mesh, items }.split();
     halve(mesh, split, items);
     let (front, back) = items.split_at_mut(half);
     let left = build_node(mesh, boxes, nodes, front, n + 1, i);
     let right = build_node(mesh, boxes, nodes, back, left.end, i + half);
-    let bounds = inner_box(mesh, items, half, left.bounds, right.bounds);
+    let bounds = Node { mesh, items }.inner_box(half, left.bounds, right.bounds);
     put_box(boxes, n, bounds);
     put_node(nodes, n, left.end, 0);
     Subtree {

@@ -7,8 +7,8 @@ use Rattle.subtree.proofs.+build_node.Goals as goal
 use Rattle.subtree.proofs.+build_node.Goals.{After-halve, After-build_node-left, After-build_node-right}
 
 -- the items after the median split
-halved : (t : ℕ) (c : After-halve t) → Halved c.args.mesh.now (place c.split_of-split.result.axis) (length c.args.boxes.now) (length c.args.nodes.now) c.args.items.now c.halve.new.items c.args.n c.args.i
-halved t c = record { room = c.requires; many = c.if-items-le4.false; axis_is = c.split_of-split.ensures; split = c.halve.ensures.halves; small = c.halve.ensures.small }
+halved : (t : ℕ) (c : After-halve t) → Halved c.args.mesh.now (place c.split-split.result.axis) (length c.args.boxes.now) (length c.args.nodes.now) c.args.items.now c.halve.new.items c.args.n c.args.i
+halved t c = record { room = c.requires; many = c.if-items-le4.false; axis_is = c.split-split.ensures; split = c.halve.ensures.halves; small = c.halve.ensures.small }
 
 -- what is written of the left half, and of the right half
 left : (t : ℕ) (c : After-build_node-left t) → Writes c.args.mesh.now c.args.boxes.now c.args.nodes.now (take (length c.args.items.now / 2) c.halve.new.items) (c.args.n + 1) c.args.i c.build_node-left.result c.build_node-left.new.boxes c.build_node-left.new.nodes c.build_node-left.new.items
@@ -29,13 +29,18 @@ build_node-right-requires t c =
     let room = right_room (halved t at.After-halve) c.build_node-left.result.end wrote.end in
     (omega (arith, c.decreases, c.split_at_mut-front.ensures.back_len, c.halve.auto.items), rw (c.split_at_mut-front.ensures.back, c.build_node-left.auto.boxes, c.build_node-left.auto.nodes) room)
 
+pub invariant_of-inner_box : goal.invariant_of-inner_box
+invariant_of-inner_box t c =
+    let at = goal.at.invariant_of-inner_box t c in
+    record { given = written_items (halved t at.After-halve) (left t at.After-build_node-left) (right t at.After-build_node-right) }
+
 pub inner_box-bounds-requires : goal.inner_box-bounds-requires
 inner_box-bounds-requires t c =
     let at = goal.at.inner_box-bounds-requires t c in
     let h = halved t at.After-halve in
     let wrote = left t at.After-build_node-left in
     let writes = right t at.After-build_node-right in
-    (written_items h wrote writes, (halves_places h wrote writes).0, (halves_places h wrote writes).1, first_bounds h wrote writes, second_bounds h wrote writes)
+    ((halves_places h wrote writes).0, (halves_places h wrote writes).1, first_bounds h wrote writes, second_bounds h wrote writes)
 
 pub put_box-requires : goal.put_box-requires
 put_box-requires t c = omega (arith, (room_one c.requires).0, c.build_node-right.auto.boxes, c.build_node-left.auto.boxes)

@@ -4,7 +4,7 @@ use Rattle.keys.specs.Sorting.{sorted_by}
 use Rattle.mesh.specs.Axes.{place}
 use Rattle.extent.specs.Extent.{is_upper, own_edge, first_zero, found_edge}
 use Rattle.extent.specs.ExtentLoops.{first_zero_next, found_item}
-use Rattle.extent.proofs.zero_edge.Goals as goal
+use Rattle.extent.proofs.Node.zero_edge.Goals as goal
 
 pub loop-t-init : goal.loop-t-init
 unfolding sorted_by first_zero
@@ -13,24 +13,24 @@ loop-t-init c = refl
 pub loop-t-preserved : goal.loop-t-preserved
 loop-t-preserved c =
     let a = c.args in
-    rw (c.earlier-found.ensures, c.edge.ensures, c.own_box.ensures, c.loop-t.invariant, first_zero_next (own_edge a.mesh.now (is_upper a.end) (place a.axis)) a.items.now c.loop-t.t-index c.loop-t-test.true)
+    rw (c.earlier-found.ensures, c.edge.ensures, c.own_box.ensures, c.loop-t.invariant, first_zero_next (own_edge a.self.mesh.now (is_upper a.end) (place a.axis)) a.self.items.now c.loop-t.t-index c.loop-t-test.true)
 
 pub own_box-requires-in-Some : goal.own_box-requires-in-Some
 own_box-requires-in-Some c =
     let a = c.args in
-    let all = rw (take_all c.loop-t.t-index a.items.now (omega arith)) at c.loop-t.invariant in
-    rw (sym all ∙ c.in-Some.is) at (found_item a.mesh.now (own_edge a.mesh.now (is_upper a.end) (place a.axis)) a.items.now c.requires)
+    let all = rw (take_all c.loop-t.t-index a.self.items.now (omega arith)) at c.loop-t.invariant in
+    rw (sym all ∙ c.in-Some.is) at (found_item a.self.mesh.now (own_edge a.self.mesh.now (is_upper a.end) (place a.axis)) a.self.items.now a.self.given)
 
 pub returns-in-Some : goal.returns-in-Some
 returns-in-Some c =
     let a = c.args in
-    let e = own_edge a.mesh.now (is_upper a.end) (place a.axis) in
-    let all = rw (take_all c.loop-t.t-index a.items.now (omega arith)) at c.loop-t.invariant in
+    let e = own_edge a.self.mesh.now (is_upper a.end) (place a.axis) in
+    let all = rw (take_all c.loop-t.t-index a.self.items.now (omega arith)) at c.loop-t.invariant in
     rw (c.edge-in-Some.ensures, c.own_box-in-Some.ensures) (ap (found_edge e) (sym c.in-Some.is ∙ all))
 
 pub returns-in-None : goal.returns-in-None
 returns-in-None c =
     let a = c.args in
-    let e = own_edge a.mesh.now (is_upper a.end) (place a.axis) in
-    let all = rw (take_all c.loop-t.t-index a.items.now (omega arith)) at c.loop-t.invariant in
+    let e = own_edge a.self.mesh.now (is_upper a.end) (place a.axis) in
+    let all = rw (take_all c.loop-t.t-index a.self.items.now (omega arith)) at c.loop-t.invariant in
     ap (found_edge e) (sym c.in-None.is ∙ all)
