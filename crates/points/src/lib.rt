@@ -70,9 +70,7 @@ impl<'t, 'a> Prepared<'t, 'a> {
             }
             let ray = Ray {
                 origin: p,
-                direction: heading.direction,
-                inverse: heading.inverse,
-                near: heading.near,
+                heading: *heading,
             };
             votes = votes.counted(ray_walk(tree, &ray));
         }

@@ -1,5 +1,5 @@
--- The directions of the rays, and what the ray walk takes for granted of a ray. Definitions only.
-use Rattle.std.specs.Prelude.{ℕ, ◌≡◌, true, get_or}
+-- The directions of the rays, and what the ray walk takes for granted of a ray.
+use Rattle.std.specs.Prelude.{ℕ, ◌+◌, ◌*◌, ◌<◌, ◌≡◌, true, false, List, [], ◌∷◌, Float, length, get_or}
 use Rattle.std.specs.Float.{nan}
 use Rattle.math.specs.declared.Vec3.{Vec3}
 use Rattle.math.specs.Vectors.{vec, is_finite}
@@ -7,11 +7,17 @@ use Rattle.rays.specs.BoxLaws.{finite_non_zero}
 use Rattle.scan.specs.Scan.{inverse, directions}
 use Rattle.ray_walk.specs.declared.Heading.{Heading}
 use Rattle.ray_walk.specs.declared.Near.{Near}
-use Rattle.ray_walk.specs.Planes.{near_places}
+use Rattle.math.specs.Boxes.{is_empty}
+use Rattle.tree.specs.Tree.{box_at}
+use Rattle.ray_walk.specs.Planes.{near_places, Seen}
 
 -- direction k
 unfoldable pub direction : ℕ → Vec3
 direction k = get_or directions k (vec nan nan nan)
+
+-- its three numbers, as a row of a table
+abbrev pub row : Vec3 → List Float
+row d = d.x ∷ d.y ∷ d.z ∷ []
 
 -- a direction with what is worked out of it
 unfoldable pub heading : Vec3 → Heading
@@ -28,3 +34,7 @@ pub record Cast (origin direction inv : Vec3) (planes : Near) : Type 0 where
   pub inverse : inv ≡ inverse direction
   pub factors : finite_non_zero inv ≡ true
   pub near : planes ≡ near_places inv
+
+-- so the planes of a box that is not empty are seen by their places
+pub seen : {boxes : List Float} {n : ℕ} {origin direction inv : Vec3} {planes : Near} → Cast origin direction inv planes → 6 * n + 5 < length boxes → is_empty (box_at boxes n) ≡ false → Seen boxes n origin inv planes
+seen cast there some = record { there = there; met = record { origin = cast.finite; direction = cast.factors; some = some }; near = cast.near }

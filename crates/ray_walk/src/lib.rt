@@ -3,7 +3,8 @@
 
 ghost use Rattle.std.specs.Prelude.{◌≡◌, ◌+◌, ◌-◌, ◌*◌, ◌≤◌, ◌<◌, true, map, length, Some};
 ghost use Rattle.math.specs.declared.BoundingBox.{BoundingBox};
-ghost use Rattle.mesh.specs.Boxes.{Corners};
+ghost use Rattle.math.specs.Vectors as Vectors;
+ghost use Rattle.mesh.specs.Axes as Axes;
 ghost use Rattle.mesh.specs.Items as Items;
 ghost use Rattle.mesh.specs.Mesh as Mesh;
 ghost use Rattle.scan.specs.Scan as Scan;
@@ -14,8 +15,7 @@ ghost use Rattle.ray_walk.specs.Planes as Planes;
 ghost use Rattle.walks.specs.Walks as Walks;
 
 use math::Vec3;
-use mesh::boxes::{finite_box, vertex};
-use mesh::{AcceptedMesh, Triangle};
+use mesh::{AcceptedMesh, Axis};
 use rays::{RayHit, overlap, ray_hits_box, ray_triangle};
 use scan::votes::Parity;
 use std::marker::Model;
@@ -46,14 +46,12 @@ pub struct Heading {
     pub near: Near,
 }
 
-// A ray from a finite point: where it begins, its direction, one over that, axis by axis, and the places of the nearer
-// planes. To a caller it is the first two, which say the others.
+// A ray from a finite point: where it begins, and its heading. To a caller it is where it begins and its direction, which
+// say the rest.
 #[derive(Drop)]
 pub struct Ray {
     pub origin: Vec3,
-    pub direction: Vec3,
-    pub inverse: Vec3,
-    pub near: Near,
+    pub heading: Heading,
 }
 
 impl Model for Ray {
@@ -61,9 +59,9 @@ impl Model for Ray {
 
     ghost Value = { Line };
 
-    ghost view = { λ r. record { origin = r.origin; direction = r.direction } };
+    ghost view = { λ r. record { origin = r.origin; direction = r.heading.direction } };
 
-    ghost invariant = { λ r. Cast r.origin r.direction r.inverse r.near };
+    ghost invariant = { λ r. Cast r.origin r.heading.direction r.heading.inverse r.heading.near };
 }
 
 // Direction `k`.
@@ -71,8 +69,7 @@ pub fn direction(k: usize) -> Vec3
     requires { k < 3 }
     ensures { result ≡ Casts.direction k }
 {
-    let d = RAY_DIRS[k];
-    Vec3::new(d[0], d[1], d[2])
+    Vec3::at(&RAY_DIRS[k], 0)
 }
 
 // One over a direction, axis by axis.
@@ -85,11 +82,11 @@ fn inverse(d: Vec3) -> Vec3
 
 // That place on one axis: of the minimum, unless the ray comes from the other side.
 #[tactic(auto, unfolding(crate::specs::Planes::near_place))]
-fn near_place(inverse: f64, axis: usize) -> usize
-    requires { axis < 3 }
-    ensures { result ≡ Planes.near_place inverse axis }
+fn near_place(inverse: f64, axis: Axis) -> usize
+    ensures { result ≡ Planes.near_place inverse (Axes.place axis) }
 {
-    if 0.0 < inverse { axis } else { axis + 3 }
+    let place = axis.place();
+    if 0.0 < inverse { place } else { place + 3 }
 }
 
 // Those places.
@@ -98,19 +95,18 @@ fn near_places(inverse: Vec3) -> Near
     ensures { result ≡ Planes.near_places inverse }
 {
     Near {
-        x: near_place(inverse.x, 0),
-        y: near_place(inverse.y, 1),
-        z: near_place(inverse.z, 2),
+        x: near_place(inverse.x, Axis::X),
+        y: near_place(inverse.y, Axis::Y),
+        z: near_place(inverse.z, Axis::Z),
     }
 }
 
-// Direction `k`, with what is worked out of it.
+// A direction of three numbers, with what is worked out of it.
 #[tactic(auto, unfolding(crate::specs::Casts::heading))]
-fn heading_of(k: usize) -> Heading
-    requires { k < 3 }
-    ensures { result ≡ Casts.heading (Casts.direction k) }
+fn heading_of(d: [f64; 3]) -> Heading
+    ensures { result ≡ Casts.heading (Vectors.at d 0) }
 {
-    let direction = direction(k);
+    let direction = Vec3::at(&d, 0);
     let inverse = inverse(direction);
     Heading {
         direction,
@@ -120,11 +116,10 @@ fn heading_of(k: usize) -> Heading
 }
 
 // Each direction, with what is worked out of it.
-#[tactic(auto, unfolding(crate::specs::Casts::direction, scan::specs::Scan::directions))]
 pub fn headings() -> [Heading; 3]
     ensures { result ≡ map Casts.heading Scan.directions }
 {
-    [heading_of(0), heading_of(1), heading_of(2)]
+    RAY_DIRS.map(heading_of)
 }
 
 // Where the ray meets the plane at place `i`, on one axis.
@@ -142,8 +137,8 @@ impl NodeTest for Ray {
     // `ray_hits_box`, with the planes read by their places.
     fn passes(&self, boxes: &[f64], n: usize) -> bool {
         let o = self.origin;
-        let inv = self.inverse;
-        let near = self.near;
+        let inv = self.heading.inverse;
+        let near = self.heading.near;
         let i = 6 * n;
         overlap(
             meets(boxes, i + near.x, o.x, inv.x),
@@ -157,38 +152,22 @@ impl NodeTest for Ray {
 }
 
 impl Ray {
-    // What the ray does at a triangle.
-    #[tactic(auto, unfolding(scan::specs::Scan::crossing))]
-    fn crossing(&self, coords: &[f64], t: Triangle) -> RayHit
-        requires { Corners coords.now t }
-        ensures { result ≡ Scan.crossing coords.now self.now.direction self.now.origin t }
-    {
-        let a = vertex(coords, t.a);
-        let b = vertex(coords, t.b);
-        let c = vertex(coords, t.c);
-        ray_triangle(self.origin, self.direction, a, b, c)
-    }
-
     // Whether the own box of triangle `t` passes.
     fn own_passes(&self, mesh: &AcceptedMesh, t: u32) -> bool
         requires { Items.Item mesh.now t }
         ensures { result ≡ Scan.ray_passes self.now.direction self.now.origin (Mesh.own_box mesh.now t) }
     {
-        let coords = mesh.coords;
-        let triangle = mesh.triangle(t as usize);
-        let own = finite_box(coords, triangle);
-        ray_hits_box(self.origin, self.inverse, own)
+        ray_hits_box(self.origin, self.heading.inverse, mesh.own_box(t))
     }
 
     // What the ray finds at triangle `t`, whose own box passes.
+    #[tactic(auto, unfolding(scan::specs::Scan::found, scan::specs::Scan::crossing))]
     fn found(&self, mesh: &AcceptedMesh, t: u32) -> RayHit
         requires item { Items.Item mesh.now t }
         requires passes { Scan.ray_passes self.now.direction self.now.origin (Mesh.own_box mesh.now t) ≡ true }
         ensures { result ≡ Scan.found mesh.now self.now.direction self.now.origin t }
     {
-        let coords = mesh.coords;
-        let triangle = mesh.triangle(t as usize);
-        self.crossing(coords, triangle)
+        ray_triangle(self.origin, self.heading.direction, mesh.corner_points(t))
     }
 
     // Stores the items whose own boxes pass, and says how many they are. Each is stored before it is known whether it
@@ -227,9 +206,8 @@ pub fn ray_walk(tree: &AcceptedTree, ray: &Ray) -> Option<Parity>
     ensures { result ≡ Walks.walk_vote tree.now.mesh tree.now.tree ray.now.origin ray.now.direction }
 {
     let mesh = &tree.mesh;
-    let mut leaves = Leaves::new(tree, ray);
     let mut parity = Parity::Even;
-    while let Some(items) = leaves.next() {
+    for items in Leaves::new(tree, ray) {
         parity = ray.parity_with(mesh, items, parity)?;
     }
     Some(parity)

@@ -1,7 +1,5 @@
--- `ray_walk` meets its contract. The invariant: the parity so far, with what is found in all that the walk still comes to, is that of all that it comes to. The measure is
--- how many triangles it still comes to.
+-- `ray_walk` meets its contract. The invariant: the parity so far, with what is found in all that the walk still comes to, is that of all that it comes to.
 use mathlib.Core.Path.{◌≡◌}
-use lib.ListN.{length}
 use Rattle.std.specs.Prelude.{Some}
 use Rattle.scan.specs.declared.votes.Parity.TheVariants.{Even}
 use Rattle.scan.specs.Scan.{ray_passes, found}
@@ -13,7 +11,5 @@ abbrev pub invariant-loop-items : goal.invariant-loop-items
 invariant-loop-items l =
     let find = found l.mesh l.fn.ray.direction l.fn.ray.origin in
     let passes = ray_passes l.fn.ray.direction l.fn.ray.origin in
-    (l.leaves.mesh ≡ l.mesh) × (cast_over find (Some l.parity) l.leaves.coming ≡ cast_over find (Some Even) (reached (all_visits l.fn.tree.tree passes)))
-
-abbrev pub decreases-loop-items : goal.decreases-loop-items
-decreases-loop-items l = length l.leaves.coming
+    let leaves = l.items-iterator in
+    (leaves.mesh ≡ l.mesh) × (cast_over find (Some l.parity) leaves.coming ≡ cast_over find (Some Even) (reached (all_visits l.fn.tree.tree passes)))
