@@ -1,9 +1,9 @@
 // The list answer. The definitions are in specs/Lists.antt.
-ghost use Rattle.std.specs.Prelude.{◌≡◌, ◌≤◌, length};
+ghost use Rattle.std.specs.Prelude.{◌≡◌, length};
 ghost use Rattle.polyhedron.specs.Lists as Lists;
 
 use math::Vec3;
-use mesh_questions::{Mesh, first_not_finite};
+use mesh_questions::{Mesh, ask_finite};
 use points::Prepared;
 use refusal::Refusal;
 use tree::Tree;
@@ -17,17 +17,6 @@ fn list_fits(numbers: usize, places: usize) -> bool
     (numbers % 3 == 0) & (numbers / 3 <= 65536) & (places == numbers / 3)
 }
 
-// Question 9: is each point finite?
-fn ask_points(points: &[f64]) -> Result<(), Refusal>
-    requires { length points.now ≤ 196608 }
-    ensures { result ≡ Lists.ask_points points.now }
-{
-    match first_not_finite(points) {
-        Some(i) => Err(Refusal::Point(i as u32)),
-        None => Ok(()),
-    }
-}
-
 // Questions 8 and 9 of a point list, with so many places for answers.
 #[tactic(auto, unfolding(crate::specs::Lists::ask_list))]
 pub fn ask_list(points: &[f64], places: usize) -> Result<(), Refusal>
@@ -36,7 +25,7 @@ pub fn ask_list(points: &[f64], places: usize) -> Result<(), Refusal>
     if !list_fits(points.len(), places) {
         return Err(Refusal::PointList);
     }
-    ask_points(points)
+    ask_finite(points, Refusal::Point)
 }
 
 // Writes the answer to each point.

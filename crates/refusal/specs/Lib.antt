@@ -2,3 +2,4 @@
 pub mod Numbers
 pub mod Verdicts
 pub mod Places
+pub mod Returned
