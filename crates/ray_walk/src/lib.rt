@@ -69,7 +69,7 @@ pub fn direction(k: usize) -> Vec3
     requires { k < 3 }
     ensures { result ≡ Casts.direction k }
 {
-    Vec3::at(&RAY_DIRS[k], 0)
+    Vec3::from(RAY_DIRS[k])
 }
 
 // One over a direction, axis by axis.
@@ -106,7 +106,7 @@ fn near_places(inverse: Vec3) -> Near
 fn heading_of(d: [f64; 3]) -> Heading
     ensures { result ≡ Casts.heading (Vectors.at d 0) }
 {
-    let direction = Vec3::at(&d, 0);
+    let direction = Vec3::from(d);
     let inverse = inverse(direction);
     Heading {
         direction,

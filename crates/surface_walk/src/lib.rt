@@ -37,10 +37,7 @@ impl Touch {
     {
         let corners = mesh.corner_points(t);
         self.near_box(corners.own_box())
-            && closest_on_triangle(self.point, corners)
-                .sub(self.point)
-                .norm()
-                <= self.eps
+            && (closest_on_triangle(self.point, corners) - self.point).norm() <= self.eps
     }
 
     // Whether one of these triangles does.
