@@ -10,7 +10,7 @@ use mesh_questions::Mesh;
 use refusal::Refusal;
 use subtree::build_node;
 
-// Writes the numbers from 0 on.
+// Writes the numbers from 0 on. They are cut by `as`, with no `try_from`: the clause says that they fit.
 fn number_items(items: &mut [u32])
     requires { length items.old ≤ 262144 }
     ensures { items.new ≡ Meshes.numbers 0 (length items.old) }

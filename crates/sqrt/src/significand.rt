@@ -92,10 +92,10 @@ pub fn by_digits(w: u64) -> u64
     for _ in 0..54u64 {
         over = over * 4 + rest / 0x10_0000_0000_0000;
         rest = rest % 0x10_0000_0000_0000 * 4;
-        root = root * 2;
+        root *= 2;
         if root * 2 < over {
-            over = over - (root * 2 + 1);
-            root = root + 1;
+            over -= root * 2 + 1;
+            root += 1;
         }
     }
     (root + 1) / 2
