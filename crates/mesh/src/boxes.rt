@@ -1,7 +1,6 @@
 // The boxes of a mesh and its triangles, and what is worked out of the mesh's box once a list. The
 // definitions are in specs/Boxes.antt and specs/Centers.antt.
-ghost use Rattle.std.specs.Prelude.{◌≡◌, ◌+◌, ◌-◌, ◌*◌, ◌<◌, false, length};
-ghost use Rattle.math.specs.Boxes.{is_empty};
+ghost use Rattle.std.specs.Prelude.{◌≡◌, ◌+◌, ◌-◌, ◌*◌, ◌<◌, length};
 ghost use Rattle.math.specs.Corners as Corners;
 ghost use Rattle.math.specs.Vectors.{component};
 ghost use Rattle.mesh.specs.Axes as Axes;
@@ -77,12 +76,11 @@ impl<'a> AcceptedMesh<'a> {
         }
     }
 
-    // The own box of triangle `t`. It is not empty.
-    #[tactic(auto, unfolding(crate::specs::Mesh::own_box), using(crate::specs::Boxes::points_box, math::specs::Corners::box_some))]
+    // The own box of triangle `t`.
+    #[tactic(auto, unfolding(crate::specs::Mesh::own_box), using(crate::specs::Boxes::points_box))]
     pub fn own_box(&self, t: u32) -> BoundingBox
         requires { t < length self.now.corners - 2 * length self.now.ends }
-        ensures own { result ≡ Mesh.own_box self.now t }
-        ensures some { is_empty result ≡ false }
+        ensures { result ≡ Mesh.own_box self.now t }
     {
         self.corner_points(t).own_box()
     }

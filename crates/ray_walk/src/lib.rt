@@ -157,7 +157,8 @@ impl Ray {
         requires { Items.Item mesh.now t }
         ensures { result ≡ Scan.ray_passes self.now.direction self.now.origin (Mesh.own_box mesh.now t) }
     {
-        ray_hits_box(self.origin, self.heading.inverse, mesh.own_box(t))
+        let own = mesh.corner_points(t).own_box();
+        ray_hits_box(self.origin, self.heading.inverse, own)
     }
 
     // What the ray finds at triangle `t`, whose own box passes.

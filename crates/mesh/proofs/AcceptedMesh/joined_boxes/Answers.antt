@@ -14,7 +14,7 @@ behind : (items : List ℕ) → take (length items - 1) (drop 1 items) ≡ drop 
 behind items = rw (← length-drop 1 items) (take-length (drop 1 items))
 
 pub loop-t-init : goal.loop-t-init
-loop-t-init c = rw (behind c.args.items.now, c.own_box-b.ensures.own) (sym (node_box_first c.args.self.now c.args.items.now c.requires.some))
+loop-t-init c = rw (behind c.args.items.now, c.own_box-b.ensures) (sym (node_box_first c.args.self.now c.args.items.now c.requires.some))
 
 pub own_box-requires : goal.own_box-requires
 own_box-requires c =
@@ -27,7 +27,7 @@ pub loop-t-preserved : goal.loop-t-preserved
 loop-t-preserved c =
     let l = c.loop-t in
     let next = join_all_next c.args.self.now l.b (take (length c.args.items.now - 1) (drop 1 c.args.items.now)) l.t-index c.loop-t-test.true in
-    rw (c.join-b.ensures, c.own_box.ensures.own) (sym next ∙ l.invariant)
+    rw (c.join-b.ensures, c.own_box.ensures) (sym next ∙ l.invariant)
 
 pub returns : goal.returns
 unfolding join_all
