@@ -1,8 +1,25 @@
 use native.Mathlib.Omega.{arith}
 use mathlib.Core.Path.{sym}
-use Rattle.tree.specs.Tree.{start_of, count_of}
+use Rattle.tree.specs.Tree.{Tree, tree, start_of, count_of}
+use Rattle.walks.specs.Walks.{Ready}
 use Rattle.walks.specs.Stacks as Stacks
+use Rattle.walks.proofs.leaves.next_leaf.Goals.{Else-node-gt0}
+use Rattle.walks.proofs.leaves.next_leaf.Given.{Over}
 use Rattle.walks.proofs.leaves.next_leaf.Goals as goal
+
+-- what is known at an inner node
+module _ (g : Over) (c : Else-node-gt0 g) where
+  abbrev t : Tree
+  t = tree c.tree.inside.boxes.now c.tree.inside.nodes.now c.tree.inside.items.now
+
+  inner : Stacks.Inner c.tree.inside.mesh t (g.P.NodeTest.passes c.args.test.now) c.loop-at.stack c.loop-at.at.node c.loop-at.at.height
+  unfolding count_of
+  inner =
+      let here = rw (← c.tree.view_is) at (Stacks.here c.loop-at.invariant.walking (omega arith)) in
+      here.inner (omega (arith, c.node_at-node.ensures.1, c.if-node-gt0.false))
+
+  ready : Ready c.tree.inside.mesh t
+  ready = record { accepted = c.tree.invariant.0; rules = c.tree.invariant.1 }
 
 pub loop-at-init : goal.loop-at-init
 loop-at-init g c = Stacks.onward_none c.requires
@@ -18,58 +35,45 @@ returns-then-node-gt0 g c = record { onward = c.loop-at.invariant; leaf = λ h. 
 
 pub overflow_add-left : goal.overflow_add-left
 overflow_add-left g c =
-    let here = rw (← c.tree.view_is) at (Stacks.here c.loop-at.invariant.walking (omega arith)) in
-    omega (arith, here.there, c.tree.invariant.1.nodes)
+    let room = (inner g (goal.at.overflow_add-left g c).Else-node-gt0).room in
+    omega (arith, room.1, room.2, c.tree.invariant.1.nodes)
 
 pub passes-enters-requires-clause-there : goal.passes-enters-requires-clause-there
-unfolding count_of
 passes-enters-requires-clause-there g c =
-    let here = rw (← c.tree.view_is) at (Stacks.here c.loop-at.invariant.walking (omega arith)) in
-    let inner = here.inner (omega (arith, c.node_at-node.ensures.1, c.if-node-gt0.false)) in
-    omega (arith, inner.room.1, inner.room.2, c.tree.invariant.1.boxes)
+    let room = (inner g (goal.at.passes-enters-requires-clause-there g c).Else-node-gt0).room in
+    omega (arith, room.1, room.2, c.tree.invariant.1.boxes)
 
 pub passes-enters-requires-clause-some : goal.passes-enters-requires-clause-some
-unfolding count_of
 passes-enters-requires-clause-some g c =
-    let here = rw (← c.tree.view_is) at (Stacks.here c.loop-at.invariant.walking (omega arith)) in
-    let inner = here.inner (omega (arith, c.node_at-node.ensures.1, c.if-node-gt0.false)) in
-    (inner.boxes (record { accepted = c.tree.invariant.0; rules = c.tree.invariant.1 })).0
+    let at = (goal.at.passes-enters-requires-clause-some g c).Else-node-gt0 in
+    ((inner g at).boxes (ready g at)).0
 
 pub passes-follows-requires-clause-there : goal.passes-follows-requires-clause-there
-unfolding start_of count_of
+unfolding start_of
 passes-follows-requires-clause-there g c =
-    let here = rw (← c.tree.view_is) at (Stacks.here c.loop-at.invariant.walking (omega arith)) in
-    let inner = here.inner (omega (arith, c.node_at-node.ensures.1, c.if-node-gt0.false)) in
-    rw c.node_at-node.ensures.0 (omega (arith, inner.room.2, c.tree.invariant.1.boxes))
+    let room = (inner g (goal.at.passes-follows-requires-clause-there g c).Else-node-gt0).room in
+    rw c.node_at-node.ensures.0 (omega (arith, room.2, c.tree.invariant.1.boxes))
 
 pub passes-follows-requires-clause-some : goal.passes-follows-requires-clause-some
-unfolding start_of count_of
+unfolding start_of
 passes-follows-requires-clause-some g c =
-    let here = rw (← c.tree.view_is) at (Stacks.here c.loop-at.invariant.walking (omega arith)) in
-    let inner = here.inner (omega (arith, c.node_at-node.ensures.1, c.if-node-gt0.false)) in
-    rw c.node_at-node.ensures.0 (inner.boxes (record { accepted = c.tree.invariant.0; rules = c.tree.invariant.1 })).1
+    let at = (goal.at.passes-follows-requires-clause-some g c).Else-node-gt0 in
+    rw c.node_at-node.ensures.0 ((inner g at).boxes (ready g at)).1
 
 pub advance-at-requires : goal.advance-at-requires
-unfolding count_of
-advance-at-requires g c =
-    let here = rw (← c.tree.view_is) at (Stacks.here c.loop-at.invariant.walking (omega arith)) in
-    let inner = here.inner (omega (arith, c.node_at-node.ensures.1, c.if-node-gt0.false)) in
-    (omega arith, inner.room.0)
+advance-at-requires g c = (omega arith, (inner g (goal.at.advance-at-requires g c).Else-node-gt0).room.0)
 
 pub loop-at-smaller : goal.loop-at-smaller
-unfolding start_of count_of
+unfolding start_of
 loop-at-smaller g c =
     let here = rw (← c.tree.view_is) at (Stacks.here c.loop-at.invariant.walking (omega arith)) in
-    let inner = here.inner (omega (arith, c.node_at-node.ensures.1, c.if-node-gt0.false)) in
-    let step = inner.step _ _ (sym c.passes-enters.ensures) (rw c.node_at-node.ensures.0 at (sym c.passes-follows.ensures)) in
+    let step = (inner g (goal.at.loop-at-smaller g c).Else-node-gt0).step _ _ (sym c.passes-enters.ensures) (rw c.node_at-node.ensures.0 at (sym c.passes-follows.ensures)) in
     rw (c.advance-at.ensures.0, c.node_at-node.ensures.0, ← c.tree.view_is) (omega (arith, step.1, here.there))
 
 pub loop-at-preserved : goal.loop-at-preserved
-unfolding start_of count_of
+unfolding start_of
 loop-at-preserved g c =
-    let here = rw (← c.tree.view_is) at (Stacks.here c.loop-at.invariant.walking (omega arith)) in
-    let inner = here.inner (omega (arith, c.node_at-node.ensures.1, c.if-node-gt0.false)) in
-    let step = inner.step _ _ (sym c.passes-enters.ensures) (rw c.node_at-node.ensures.0 at (sym c.passes-follows.ensures)) in
+    let step = (inner g (goal.at.loop-at-preserved g c).Else-node-gt0).step _ _ (sym c.passes-enters.ensures) (rw c.node_at-node.ensures.0 at (sym c.passes-follows.ensures)) in
     rw (c.advance-at.ensures.0, c.advance-at.ensures.1, c.node_at-node.ensures.0, ← c.tree.view_is)
     (Stacks.onward_more (rw (← c.tree.view_is) at c.loop-at.invariant) step.0)
 
