@@ -6,6 +6,7 @@ ghost use Rattle.tree.specs.Tree as Trees;
 ghost use Rattle.c_lists.specs.Lists as Lists;
 
 use mesh_questions::Mesh;
+use refusal::returned;
 use tree::Tree;
 
 // `contains_list` of crate `polyhedron`. Returns 0 if nothing is refused.
@@ -32,8 +33,5 @@ pub fn csx_contains_list(
         nodes,
         items,
     };
-    match polyhedron::lists::contains_list(&mesh, &tree, work, points, answers) {
-        Err(refusal) => refusal.code(),
-        Ok(()) => 0,
-    }
+    returned(polyhedron::lists::contains_list(&mesh, &tree, work, points, answers).map(|()| 0))
 }

@@ -33,6 +33,7 @@ fn answer_points(prepared: &Prepared, points: &[f64], answers: &mut [u8])
     requires { Lists.Answerable points.now (length answers.old) }
     ensures { answers.new ≡ Lists.answers_to prepared.now points.now }
 {
+    // Points by number: of a loop over `answers.iter_mut().zip(..)`, a proof does not see what the answers end as.
     for (i, answer) in answers.iter_mut().enumerate() {
         let p = Vec3::at(points, 3 * i);
         *answer = prepared.answer(p).byte();
