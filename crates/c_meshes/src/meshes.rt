@@ -14,6 +14,8 @@ pub fn csx_from_triangles(
 ) -> u64
     ensures { Welding.Welds triangles.now coords.old corners.old ends.old sizes.old result coords.new corners.new ends.new sizes.new }
 {
+    // Matches, and no `returned` as in the tree entries: with too few sizes a pass is refused too, and before the 0 is
+    // returned the sizes are written.
     if sizes.len() < 2 {
         return match weld::ask_triangles(triangles, coords.len(), corners.len(), ends.len()) {
             Err(refusal) => refusal.code(),

@@ -4,6 +4,7 @@ ghost use Rattle.tree.specs.Tree as LentTrees;
 ghost use Rattle.c_meshes.specs.Trees as Trees;
 
 use mesh_questions::Mesh;
+use refusal::returned;
 use tree::Tree;
 
 // Builds the tree of a mesh, and returns how many nodes it has.
@@ -22,10 +23,7 @@ pub fn csx_build_tree(
         corners,
         ends,
     };
-    match bvh::build::build(&mesh, boxes, nodes, items) {
-        Ok(count) => count as u64,
-        Err(refusal) => refusal.code(),
-    }
+    returned(bvh::build::build(&mesh, boxes, nodes, items).map(|count| count as u64))
 }
 
 // Whether a lent tree keeps the tree rules for a mesh. The work places that are needed, one a corner, hold 0
@@ -51,8 +49,5 @@ pub fn csx_check_tree(
         nodes,
         items,
     };
-    match tree_check::check_tree(&mesh, &tree, work) {
-        Err(refusal) => refusal.code(),
-        Ok(()) => 0,
-    }
+    returned(tree_check::check_tree(&mesh, &tree, work).map(|()| 0))
 }
