@@ -38,6 +38,7 @@ pub fn answer_points(mesh: &Mesh, points: &[f64], answers: &mut [u8])
     requires { Small mesh.now points.now (length answers.old) }
     ensures { answers.new ≡ Lists.answers_to mesh.now points.now }
 {
+    // No heap, so the lists are as long as the largest small mesh needs.
     let mut boxes = [0.0; 3072];
     let mut nodes = [0u32; 1024];
     let mut items = [0u32; 512];

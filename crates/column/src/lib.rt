@@ -31,6 +31,7 @@ fn list_answers(
 }
 
 // The listing of a text whose lines are all good, so many of each kind. What they say is written into the lent lists.
+// The six are no struct: the counts say how much of each is filled, and each goes to another call.
 #[tactic(auto, using(crate::specs::CallLaws::sizes, crate::specs::CallLaws::fronts))]
 fn list_into(
     text: &[u8],
@@ -65,6 +66,7 @@ fn list_good(text: &[u8], counts: Counts, listing: &mut [u8]) -> Result<usize, R
     requires { Column.judged text.now ≡ Ok counts }
     ensures { Column.Lists text.now listing.old result listing.new }
 {
+    // No heap, so the lists are as long as the longest text that is accepted needs.
     let mut coords = [0.0; 1536];
     let mut corners = [0u32; 1536];
     let mut ends = [0u32; 512];
@@ -88,8 +90,6 @@ fn list_good(text: &[u8], counts: Counts, listing: &mut [u8]) -> Result<usize, R
 pub fn point_list(text: &[u8], listing: &mut [u8]) -> Result<usize, Refusal>
     ensures { Column.Lists text.now listing.old result listing.new }
 {
-    match text::judge_text(text, 1) {
-        Ok(counts) => list_good(text, counts, listing),
-        Err(line) => Err(Refusal::Line(line)),
-    }
+    let counts = text::judge_text(text, 1).map_err(Refusal::Line)?;
+    list_good(text, counts, listing)
 }
