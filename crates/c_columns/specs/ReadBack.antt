@@ -3,7 +3,7 @@
 use Rattle.std.specs.Prelude.{ℕ, ◌+◌, ◌≤◌, ◌≡◌, refl, Bool, true, false, cond, Option, Result, Ok, Err, List, [], ◌∷◌, leb, length}
 use Rattle.std.proofs.Common.{arith, ap}
 use Rattle.refusal.specs.declared.Refusal.TheVariants as Refusals
-use Rattle.refusal.specs.Verdicts.{Passed, Verdict, written}
+use Rattle.refusal.specs.Verdicts.{Verdict, written}
 use Rattle.refusal.specs.Places.{Below, below_refused}
 use Rattle.mesh.specs.Places.{below_room}
 use Rattle.polyhedron.specs.Lists.{answers_to}

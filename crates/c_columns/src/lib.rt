@@ -3,12 +3,11 @@
 
 ghost use Rattle.c_columns.specs.Columns as Columns;
 
+use refusal::returned;
+
 // Column text in, a listing out. Returns how many bytes the listing has.
 pub fn csx_point_list(text: &[u8], listing: &mut [u8]) -> u64
     ensures { Columns.Lists text.now listing.old result listing.new }
 {
-    match column::point_list(text, listing) {
-        Ok(bytes) => bytes as u64,
-        Err(refusal) => refusal.code(),
-    }
+    returned(column::point_list(text, listing).map(|bytes| bytes as u64))
 }

@@ -1,6 +1,6 @@
 -- What the program prints (document 01, Column text): the listing, or a header with the refusal's number and place. Definitions only.
 use Rattle.std.specs.Prelude.{ℕ, ◌≡◌, cond, List, [], leb, length, Ok, Err}
-use Rattle.refusal.specs.Verdicts.{Passed, Verdict}
+use Rattle.refusal.specs.Verdicts.{Verdict}
 use Rattle.lent.specs.Over.{over}
 use Rattle.refusal.specs.Numbers.{number, place}
 use Rattle.listing.specs.Listing.{header}
