@@ -17,7 +17,8 @@ pub struct Walked {
     pub joined: BoundingBox,
 }
 
-// A leaf's first item place and its number of items, or an inner node's right child and 0.
+// A leaf's first item place and its number of items, or an inner node's right child and 0. No enum of the two: where a walk
+// has come to a leaf, it would have to match an inner node too.
 #[derive(Clone, Copy)]
 pub struct Node {
     pub start: usize,
