@@ -43,7 +43,7 @@ impl Place for u64 {
 impl Place for f64 {
     // The float's bits, and those of one NaN for each NaN.
     fn word(self) -> u64 {
-        if self != self {
+        if self.is_nan() {
             return 0x7FF8_0000_0000_0000;
         }
         f64::to_bits(self)

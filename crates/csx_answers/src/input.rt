@@ -34,7 +34,9 @@ pub fn number(text: &[u8; 17]) -> Result<u64, Unreadable> {
 }
 
 // Reads until the buffer is full, the input ends or a read fails. Returns how many bytes were read. How many turns that
-// takes is not known before, since a read may give fewer bytes than it is asked for.
+// takes is not known before, since a read may give fewer bytes than it is asked for. It is not the program point-list's
+// `read_text`, which answers a failed read with an error: here that ends the records as the end of the input does, and
+// the two programs share no library.
 pub fn read_full(input: &mut impl Read, buffer: &mut [u8]) -> usize
     ensures { result ≤ length buffer.new }
 {

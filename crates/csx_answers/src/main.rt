@@ -50,6 +50,7 @@ fn replayed(input: &mut impl Read, text: &[u8; 17]) -> Result<bool, Unreadable> 
     let kind = input::number(text)?;
     let mut sizes = [0u32; 9];
     buffers::fill(input, &mut sizes)?;
+    // No heap, so each buffer has as many places as the longest of a record may have.
     let mut coords = [0.0; 511];
     let mut boxes = [0.0; 511];
     let mut points = [0.0; 511];

@@ -50,7 +50,7 @@ pub fn higher(a: f64, b: f64) -> f64
     if a < b { b } else { a }
 }
 
-// `x` with its sign cleared. A NaN stays a NaN.
+// `x` with its sign cleared. A NaN stays a NaN. (`f64::abs`, which is stated here as document 01's rule.)
 pub fn abs(x: f64) -> f64
     ensures { result ≡ Rules.abs x }
 {
@@ -67,7 +67,7 @@ pub fn clamp(x: f64, lo: f64, hi: f64) -> f64
     if hi < y { hi } else { y }
 }
 
-// Whether `x` is neither infinite nor a NaN.
+// Whether `x` is neither infinite nor a NaN. (`f64::is_finite`, which is stated here as document 01's rule.)
 pub fn is_finite(x: f64) -> bool
     ensures { result ≡ Rules.is_finite x }
 {
@@ -83,7 +83,8 @@ pub fn rem_euclid(a: f64, b: f64) -> f64
     if r < 0.0 { r + abs(b) } else { r }
 }
 
-// A number that sorts as `x` does: by IEEE 754's totalOrder, with NaN last.
+// A number that sorts as `x` does: by IEEE 754's totalOrder, with NaN last. (`f64::total_cmp` orders a NaN by its sign,
+// and gives no number to sort by.)
 pub fn order_key(x: f64) -> u64
     ensures { result ≡ TotalOrder.order_key x }
 {
