@@ -9,4 +9,4 @@ use Rattle.ray_walk.proofs.direction.Goals as goal
 
 pub returns : goal.returns
 unfolding direction directions at
-returns c = c.at.ensures ∙ sym (get_or-map (λ r. at r 0) (map row directions) c.args.k [])
+returns c = c.from.ensures ∙ sym (get_or-map (λ r. at r 0) (map row directions) c.args.k [])
