@@ -1,10 +1,10 @@
 -- How the lists of a node are made up of those of its halves, and that there is room for these.
 use Rattle.std.specs.Prelude.{ℕ, suc, ◌+◌, ◌*◌, ◌/◌, ◌≤◌, ◌<◌, ◌≡◌, refl, List, [], ◌∷◌, ◌++◌, Float, set, take, drop}
 use Rattle.std.proofs.Math.Numerals.{add-one}
-use Rattle.std.proofs.Common.{arith, ap, ◌∙◌, length-drop, take-append-drop, length-take-le, take_at, drop_at}
+use Rattle.std.proofs.Common.{arith, ap, ◌∙◌, append_assoc, drop-drop, length-drop, take-append-drop, length-take-le, take_at, drop_at}
 use Rattle.std.proofs.Math.Path.{sym}
 use Rattle.std.proofs.Math.ListN.{length}
-use Rattle.std.proofs.lemmas.List.Edits.{sets}
+use Rattle.std.proofs.lemmas.List.Edits.{sets, sets-eq}
 use Rattle.std.proofs.lemmas.List.{set_comm}
 use Rattle.keys.specs.Sorting.{sorted, count, Permutation}
 use Rattle.keys.specs.SortingTheorems.{length_sorted, count_sorted, sorted_permuted}
@@ -48,6 +48,10 @@ module _ {A : Type 0} where
       let first = sets_before l i j a b (omega arith) in
       let parts : sets l i (a ++ (b ++ c)) ≡ sets (sets (sets l i a) j b) k c = rw (f, e) (sets_append l i a (b ++ c) ∙ sets_append (sets l i a) (i + length a) b c) in
       last ∙ (rw first (sym parts))
+
+  -- a list copied over a part of another
+  pub sets_copied : (l : List A) (i : ℕ) (vs : List A) → i + length vs ≤ length l → take i l ++ (vs ++ drop (length vs) (drop i l)) ≡ sets l i vs
+  sets_copied l i vs h = rw (drop-drop (length vs) i l) (sym (sets-eq vs l i h ∙ append_assoc (take i l) vs _))
 
 -- ---- a node
 
