@@ -50,6 +50,7 @@ impl Place for f64 {
     }
 
     // No record has a NaN.
+    #[tactic(auto, using(std::proofs::lemmas::Float::not_nan_f64_bits))]
     fn of_word(word: u64) -> Option<f64> {
         if 0x7FF0_0000_0000_0000 < word % 0x8000_0000_0000_0000 {
             return None;
