@@ -25,6 +25,7 @@ fn face_keys(face: &[u32], work: &mut [u64])
     requires { length face.now ≤ length work.old }
     ensures { work.new ≡ over (face_keys face.now) work.old }
 {
+    // Places by number: of a loop over `work.iter_mut().zip(face)`, a proof does not see what the places end as.
     for (i, corner) in face.iter().enumerate() {
         let next = face.get(i + 1).copied().unwrap_or(face[0]);
         work[i] = edge_key(*corner, next);
@@ -75,6 +76,7 @@ pub fn is_closed(faces: usize, keys: &[u64]) -> bool
 }
 
 // Writes the keys of all edges in ascending order, and says whether the mesh is closed.
+#[tactic(auto, using(crate::specs::PairLaws::closed_of))]
 pub fn keys_closed(corners: &[u32], ends: &[u32], work: &mut [u64]) -> bool
     requires { (ends_fit 0 (length corners.now) ends.now ≡ true) × Below 65536 corners.now × (length corners.now ≤ length work.old) }
     ensures { (result ≡ closed (faces corners.now ends.now)) × (work.new ≡ over (sorted (edge_keys (faces corners.now ends.now))) work.old) }

@@ -94,7 +94,7 @@ fn weld_all(triangles: &[f64], coords: &mut [f64], corners: &mut [u32], ends: &m
 }
 
 // Questions 1, 5 and 6, with the lengths of the buffers.
-#[tactic(auto, unfolding(crate::specs::Questions::ask_triangles, crate::specs::Questions::whole_triangles, crate::specs::Questions::ask_corners, crate::specs::Questions::room))]
+#[tactic(auto, using(crate::specs::Passed::whole_passed), unfolding(crate::specs::Questions::ask_triangles, crate::specs::Questions::whole_triangles, crate::specs::Questions::ask_corners, crate::specs::Questions::room))]
 pub fn ask_triangles(
     triangles: &[f64],
     coords: usize,
