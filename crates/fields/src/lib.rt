@@ -5,7 +5,7 @@
 ghost use Rattle.std.specs.Prelude.{◌≡◌, true, false, ◌≤◌, length, drop};
 ghost use Rattle.fields.specs.Fields as Fields;
 
-// A number that a field says.
+// A number that a field says. No i64: the definitions of fields read and write the sign and the size apart.
 #[derive(Clone, Copy)]
 pub struct Number {
     pub negative: bool,
@@ -31,6 +31,7 @@ fn value_of(digits: &[u8]) -> u64
     requires { (Fields.all_digits digits.now ≡ true) × (length digits.now ≤ 18) }
     ensures { result ≡ Fields.value_from 0 digits.now }
 {
+    // A loop and no `fold`: that the number fits rests on how many digits were read, which a closure does not know.
     let mut read: u64 = 0;
     for digit in digits {
         read = read * 10 + u64::from(*digit - b'0');

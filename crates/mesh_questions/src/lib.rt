@@ -86,6 +86,7 @@ fn ask_face(vertices: usize, number: u32, face: &[u32]) -> Result<(), Refusal>
 }
 
 // Questions 3 and 4, face by face.
+#[tactic(auto, using(crate::specs::QuestionLaws::ends_fit_step, crate::specs::QuestionLaws::ends_fit_le))]
 fn ask_faces(vertices: usize, corners: &[u32], ends: &[u32]) -> Result<(), Refusal>
     requires { (length ends.now ≤ 65536) × (Questions.ends_fit 0 (length corners.now) ends.now ≡ true) }
     ensures { result ≡ Questions.ask_faces vertices 0 (faces corners.now ends.now) }

@@ -5,24 +5,12 @@ use Rattle.std.proofs.lemmas.Result.{err_from_is_err_and}
 use Rattle.refusal.specs.Verdicts.{Passed}
 use Rattle.mesh_questions.specs.Faces.{faces, faces_from}
 use Rattle.mesh_questions.specs.Questions.{ask_faces}
-use Rattle.mesh_questions.specs.QuestionLaws.{ends_fit_le, ends_fit_step, ask_faces_next}
+use Rattle.mesh_questions.specs.QuestionLaws.{ends_fit_step, ask_faces_next}
 use Rattle.mesh_questions.proofs.ask_faces.Goals as goal
 
 pub loop-i-init : goal.loop-i-init
 unfolding faces
 loop-i-init c = (c.requires.1, refl)
-
-pub offset_bounds-corners-start : goal.offset_bounds-corners-start
-offset_bounds-corners-start c = omega (arith, ends_fit_le _ _ _ c.loop-i.invariant.0)
-
-pub slice_bounds-ask_face-count : goal.slice_bounds-ask_face-count
-slice_bounds-ask_face-count c = omega (arith, (ends_fit_step c.loop-i.start (length c.args.corners.now) c.args.ends.now c.loop-i.i (omega arith) c.loop-i.invariant.0).0)
-
-pub slice_bounds-ask_face-start : goal.slice_bounds-ask_face-start
-slice_bounds-ask_face-start c = omega (arith, (ends_fit_step c.loop-i.start (length c.args.corners.now) c.args.ends.now c.loop-i.i (omega arith) c.loop-i.invariant.0).0)
-
-pub slice_bounds-ask_face-end : goal.slice_bounds-ask_face-end
-slice_bounds-ask_face-end c = omega (arith, (ends_fit_step c.loop-i.start (length c.args.corners.now) c.args.ends.now c.loop-i.i (omega arith) c.loop-i.invariant.0).1)
 
 pub returns-in_err-ask_face : goal.returns-in_err-ask_face
 returns-in_err-ask_face c =
