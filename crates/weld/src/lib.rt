@@ -14,7 +14,7 @@ use mesh::Triangle;
 use refusal::Refusal;
 
 // How many vertices and faces are written.
-#[derive(Clone, Copy)]
+#[derive(Clone, Copy, Default)]
 pub struct Counts {
     pub vertices: usize,
     pub faces: usize,
@@ -81,10 +81,7 @@ fn weld_all(triangles: &[f64], coords: &mut [f64], corners: &mut [u32], ends: &m
     requires room { room (length triangles.now / 9) (length coords.old) (length corners.old) (length ends.old) ≡ true }
     ensures { WeldsAll triangles.now coords.old corners.old ends.old result coords.new corners.new ends.new }
 {
-    let mut counts = Counts {
-        vertices: 0,
-        faces: 0,
-    };
+    let mut counts = Counts::default();
     let (all, _) = triangles.as_chunks::<9>();
     for triangle in all {
         let t = add_corners(triangle, coords, &mut counts.vertices);

@@ -1,4 +1,4 @@
-use Rattle.std.proofs.Common.{◌≡◌, ℕ, zero, suc, ◌+◌, ◌*◌, ◌/◌, ◌<◌, List, [], length, get_or, take, drop, drop-drop, refl, ◌∙◌, arith}
+use Rattle.std.proofs.Common.{◌≡◌, ℕ, zero, suc, ◌+◌, ◌*◌, ◌/◌, ◌<◌, List, [], length, get_or, take, drop, drop-drop, refl, ◌∙◌, arith, rules}
 use Rattle.std.proofs.Math.Seq.{get_or-take, get_or-drop}
 use Rattle.std.specs.Prelude.{Float}
 use Rattle.std.specs.Float.{nan}
@@ -29,7 +29,9 @@ corner : (l : List Float) (all : List (List Float)) (i j : ℕ) → all ≡ firs
 corner l all i j e h b = rw (e, ninth (length l / 9) i l h) (at_ninth l (9 * i) j b)
 
 pub loop-triangle-init : goal.loop-triangle-init
-loop-triangle-init c = done_none _ _ _ _
+loop-triangle-init c =
+    let none : (c.default-counts.result.vertices ≡ 0) × (c.default-counts.result.faces ≡ 0) = search rules in
+    rw (none.0, none.1) (done_none _ _ _ _)
 
 pub add_corners-t-requires : goal.add_corners-t-requires
 add_corners-t-requires c =
