@@ -2,7 +2,8 @@
 use crate::input::{Unreadable, read_word};
 use std::io::Read;
 
-// What a place of a buffer holds, as a word of the input.
+// What a place of a buffer holds, as a word of the input. No From and TryFrom: of a float that is its bits, and
+// `f64::from` of a number is not the float of those bits.
 pub trait Place: Copy {
     fn word(self) -> u64;
 

@@ -14,7 +14,7 @@ use std::io::Read;
 use std::{fmt, io};
 
 // How many records say what the engine does, how many do not, and how many cannot be read.
-#[derive(Drop)]
+#[derive(Default, Drop)]
 struct Counts {
     equal: u64,
     different: u64,
@@ -90,11 +90,7 @@ fn replayed_next(input: &mut impl Read) -> Option<Result<bool, Unreadable>> {
 // Replays the records of the input, 100,000 at most, up to the first that cannot be read.
 fn main(rt: HostRuntime) -> io::Result<()> {
     let mut input = rt.stdin();
-    let mut counts = Counts {
-        equal: 0,
-        different: 0,
-        unreadable: 0,
-    };
+    let mut counts = Counts::default();
     for _ in 0..100_000 {
         let Some(replayed) = replayed_next(&mut input) else {
             break;
