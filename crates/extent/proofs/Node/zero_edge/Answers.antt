@@ -1,8 +1,8 @@
-use Rattle.std.proofs.Common.{refl, sym, ap, ◌∙◌, arith}
+use Rattle.std.proofs.Common.{refl, sym, ◌∙◌, arith}
 use lib.Seq.{take_all}
 use Rattle.keys.specs.Sorting.{sorted_by}
 use Rattle.mesh.specs.Axes.{place}
-use Rattle.extent.specs.Extent.{is_upper, own_edge, first_zero, found_edge}
+use Rattle.extent.specs.Extent.{is_upper, own_edge, first_zero}
 use Rattle.extent.specs.ExtentLoops.{first_zero_next, found_item}
 use Rattle.extent.proofs.Node.zero_edge.Goals as goal
 
@@ -20,17 +20,3 @@ own_box-requires-in-Some c =
     let a = c.args in
     let all = rw (take_all c.loop-t.t-index a.self.items.now (omega arith)) at c.loop-t.invariant in
     rw (sym all ∙ c.in-Some.is) at (found_item a.self.mesh.now (own_edge a.self.mesh.now (is_upper a.end) (place a.axis)) a.self.items.now a.self.given)
-
-pub returns-in-Some : goal.returns-in-Some
-returns-in-Some c =
-    let a = c.args in
-    let e = own_edge a.self.mesh.now (is_upper a.end) (place a.axis) in
-    let all = rw (take_all c.loop-t.t-index a.self.items.now (omega arith)) at c.loop-t.invariant in
-    rw (c.edge-in-Some.ensures, c.own_box-in-Some.ensures) (ap (found_edge e) (sym c.in-Some.is ∙ all))
-
-pub returns-in-None : goal.returns-in-None
-returns-in-None c =
-    let a = c.args in
-    let e = own_edge a.self.mesh.now (is_upper a.end) (place a.axis) in
-    let all = rw (take_all c.loop-t.t-index a.self.items.now (omega arith)) at c.loop-t.invariant in
-    ap (found_edge e) (sym c.in-None.is ∙ all)
