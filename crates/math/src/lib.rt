@@ -1,5 +1,5 @@
 // Points, directions and boxes: csx's `Vec3` and `BoundingBox` (math.rs), passed and returned by value.
-// The definitions are in specs/Vectors.antt and specs/Boxes.antt, and for the corners of a triangle in specs/Corners.antt.
+// The definitions are in specs/Vectors.antt and specs/Boxes.antt, for the corners of a triangle in specs/Corners.antt.
 #![tactic(auto)]
 
 ghost use Rattle.std.specs.Prelude.{◌≡◌, ◌+◌, ◌<◌, length};

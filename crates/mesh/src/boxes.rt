@@ -30,8 +30,8 @@ pub fn vertex(coords: &[f64], v: u32) -> Vec3
     Vec3::at(coords, 3 * (v as usize))
 }
 
-// A triangle's own box. Neither this nor the centre is a method of `AcceptedMesh`: they are promised of any coordinates,
-// finite or not.
+// A triangle's own box. Neither this nor the centre is a method of `AcceptedMesh`: they are promised of coordinates of
+// any kind, finite or not.
 #[tactic(auto, unfolding(crate::specs::Boxes::triangle_box))]
 pub fn triangle_box(coords: &[f64], t: Triangle) -> BoundingBox
     requires { Boxes.Corners coords.now t }

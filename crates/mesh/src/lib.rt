@@ -41,8 +41,8 @@ pub enum Axis {
     Z,
 }
 
-// A mesh that questions 1 to 5 let pass, and how its triangles are found quickly. It has the lists of `Mesh` as its own: they
-// are read in every crate above, and through a `Mesh` in it each of those places would be longer.
+// A mesh that questions 1 to 5 let pass, and how its triangles are found quickly. It has the lists of `Mesh` as its own:
+// they are read in every crate above, and through a `Mesh` in it each of those places would be longer.
 #[derive(Drop)]
 pub struct AcceptedMesh<'a> {
     pub coords: &'a [f64],

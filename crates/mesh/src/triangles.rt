@@ -49,8 +49,8 @@ fn start_of(ends: &[u32], f: usize) -> usize
     ends[f - 1] as usize
 }
 
-// The face of triangle `t`, by halves: it lies between faces `lo` and `hi`. By hand: the test needs the face's number beside
-// where the face ends, and the library's `partition_point` gives the end alone.
+// The face of triangle `t`, by halves: it lies between faces `lo` and `hi`. By hand: the test needs the face's number
+// beside where the face ends, and the library's `partition_point` gives the end alone.
 fn search(ends: &[u32], t: usize) -> usize
     requires { (length ends.now ≤ 65536) × (t < 4294967296) × (t + 2 * length ends.now < Triangles.start_from 0 ends.now (length ends.now)) }
     ensures { Triangles.InFace ends.now t result }
@@ -121,7 +121,8 @@ fn place_of(corners: &[u32], ends: &[u32], sides: Sides, t: usize) -> (usize, us
     }
 }
 
-// Triangle `t` of a mesh whose faces are all wide.
+// Triangle `t` of a mesh whose faces are all wide. The lists are lent one by one: it is promised of wide faces alone, and
+// an `AcceptedMesh` asks for finite coordinates besides.
 pub fn triangle(corners: &[u32], ends: &[u32], sides: Sides, t: usize) -> Triangle
     requires { Fanned corners.now ends.now × (sides ≡ Triangles.sides ends.now) × (t < length corners.now - 2 * length ends.now) }
     ensures { result ≡ get_or (Triangles.triangles corners.now ends.now) t (Triangles.triangle 0 0 0) }

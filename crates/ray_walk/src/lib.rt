@@ -46,8 +46,8 @@ pub struct Heading {
     pub near: Near,
 }
 
-// A ray from a finite point: where it begins, and its heading. To a caller it is where it begins and its direction, which
-// say the rest.
+// A ray from a finite point: where it begins, and its heading. To a caller it is where it begins and its direction,
+// which say the rest.
 #[derive(Drop)]
 pub struct Ray {
     pub origin: Vec3,
@@ -172,7 +172,7 @@ impl Ray {
     }
 
     // Stores the items whose own boxes pass, and says how many they are. Each is stored before it is known whether it
-    // counts, so that no branch depends on its test and the next one can be read meanwhile.
+    // counts, so that no branch depends on its test and the next one can be read meanwhile; a `filter` would branch.
     fn keep_passing(&self, mesh: &AcceptedMesh, items: &[u32], kept: &mut [u32; 4]) -> usize
         requires items { Items.Items mesh.now items.now }
         requires few { length items.now ≤ 4 }

@@ -1,4 +1,5 @@
-// A lent box tree: the tree rules, the test that computes them, and how a node and its box are read. The definitions are in specs/.
+// A lent box tree: the tree rules, the test that computes them, and how a node and its box are read. The definitions are
+// in specs/.
 #![tactic(auto)]
 
 ghost use Rattle.std.specs.Prelude.{◌≡◌, ◌+◌, ◌*◌, ◌<◌, length, get_or};
@@ -39,8 +40,8 @@ impl<'a> Model for Tree<'a> {
     ghost view = { λ t. Trees.tree t.boxes.now t.nodes.now t.items.now };
 }
 
-// An accepted mesh, and a tree that keeps the tree rules for it. It has the lists of `Tree` as its own: the walks read them at
-// every step, and through a `Tree` in it each of those places would be longer.
+// An accepted mesh, and a tree that keeps the tree rules for it. It has the lists of `Tree` as its own: the walks read
+// them at every step, and through a `Tree` in it each of those places would be longer.
 #[derive(Drop)]
 pub struct AcceptedTree<'a> {
     pub mesh: AcceptedMesh<'a>,

@@ -3,7 +3,8 @@ ghost use Rattle.std.specs.Prelude.{◌≡◌, ◌<◌};
 ghost use Rattle.walks.specs.Stacks as Stacks;
 
 // Where a walk is: at the root of a subtree that is to be visited, with so many to come, this one included. The roots of
-// the others are on the walk's stack, the next one at place `height - 1`; place 0 has the number of nodes.
+// the others are on the walk's stack, the next one at place `height - 1`; place 0 has the number of nodes. It is no
+// struct with the stack: each step gives back a new place, and writes the stack only where the left child is entered.
 #[derive(Clone, Copy)]
 pub struct Place {
     pub node: usize,
