@@ -17,6 +17,7 @@ use Rattle.mesh.specs.Mesh.{Mesh, triangle_count}
 use Rattle.tree.specs.Tree.{Tree, node_count}
 use Rattle.tree.specs.TreeTest.{Lent, root_test, tree_test, triangle_count_accepted}
 use Rattle.tree.specs.TreeTheorem.{once_sound}
+use Rattle.tree_check.proofs.keeps_rules.Goals.{After-items_once}
 use Rattle.tree_check.proofs.keeps_rules.Goals as goal
 
 -- lists that agree from place n on agree from any later place on
@@ -56,6 +57,18 @@ module _ (m : Mesh) (t : Tree) (accepted : Accepted m.coords m.corners m.ends) w
   rest : (work₀ work : List ℕ) (result : Bool) → CountsOnce t.items (length m.corners - 2 * length m.ends) work₀ result work → drop (length m.corners) work ≡ drop (length m.corners) work₀
   rest work₀ work result counted = agree_later (length m.corners - 2 * length m.ends) (length m.corners) work work₀ (omega arith) counted.rest
 
+-- what is known once the items are counted
+module _ (c : After-items_once) where
+  mesh : Accepted c.args.mesh.now.coords c.args.mesh.now.corners c.args.mesh.now.ends
+  mesh = c.triangle_count-triangles.ensures.accepted
+
+  fits : fit c.args.mesh.now c.args.tree.now mesh ≡ true
+  unfolding node_count
+  fits = sym c.lengths_fit.ensures ∙ c.if-not-lengths_fit.false
+
+  counted : CountsOnce c.args.tree.now.items (length c.args.mesh.now.corners - 2 * length c.args.mesh.now.ends) c.args.work.now c.items_once.result c.items_once.new.work
+  counted = rw (c.triangle_count-triangles.ensures.count, ap (λ (t : Tree). t.items) c.tree.view_is) at c.items_once.ensures
+
 pub returns-then-not-lengths_fit : goal.returns-then-not-lengths_fit
 unfolding node_count
 returns-then-not-lengths_fit c =
@@ -66,30 +79,18 @@ returns-then-not-lengths_fit c =
     record { answer = rw (tested m t accepted, no); rest = refl }
 
 pub returns-then-not-items_once : goal.returns-then-not-items_once
-unfolding node_count
 returns-then-not-items_once c =
-    let m = c.args.mesh.now in
-    let t = c.args.tree.now in
-    let accepted = c.triangle_count-triangles.ensures.accepted in
-    let counted = rw (c.triangle_count-triangles.ensures.count, ap (λ (t : Tree). t.items) c.tree.view_is) at c.items_once.ensures in
-    let yes : fit m t accepted ≡ true = sym c.lengths_fit.ensures ∙ c.if-not-lengths_fit.false in
-    let no : once m t accepted ≡ false = sym counted.answer ∙ c.if-not-items_once.true in
-    record { answer = rw (tested m t accepted, yes, no); rest = rest m t accepted _ _ _ counted }
+    let at = (goal.at.returns-then-not-items_once c).After-items_once in
+    let no : once c.args.mesh.now c.args.tree.now (mesh at) ≡ false = sym (counted at).answer ∙ c.if-not-items_once.true in
+    record { answer = rw (tested _ _ (mesh at), fits at, no); rest = rest _ c.args.tree.now (mesh at) _ _ _ (counted at) }
 
 pub invariant_of-root_fits : goal.invariant_of-root_fits
-unfolding node_count
 invariant_of-root_fits c =
-    let accepted = c.triangle_count-triangles.ensures.accepted in
-    let counted = rw (c.triangle_count-triangles.ensures.count, ap (λ (t : Tree). t.items) c.tree.view_is) at c.items_once.ensures in
-    lent c.args.mesh.now c.args.tree.now accepted (sym c.lengths_fit.ensures ∙ c.if-not-lengths_fit.false) (sym counted.answer ∙ c.if-not-items_once.false)
+    let at = (goal.at.invariant_of-root_fits c).After-items_once in
+    lent c.args.mesh.now c.args.tree.now (mesh at) (fits at) (sym (counted at).answer ∙ c.if-not-items_once.false)
 
 pub returns : goal.returns
-unfolding node_count
 returns c =
-    let m = c.args.mesh.now in
-    let t = c.args.tree.now in
-    let accepted = c.triangle_count-triangles.ensures.accepted in
-    let counted = rw (c.triangle_count-triangles.ensures.count, ap (λ (t : Tree). t.items) c.tree.view_is) at c.items_once.ensures in
-    let yes : fit m t accepted ≡ true = sym c.lengths_fit.ensures ∙ c.if-not-lengths_fit.false in
-    let too : once m t accepted ≡ true = sym counted.answer ∙ c.if-not-items_once.false in
-    record { answer = rw (tested m t accepted, yes, too) c.root_fits.ensures; rest = rest m t accepted _ _ _ counted }
+    let at = (goal.at.returns c).After-items_once in
+    let yes : once c.args.mesh.now c.args.tree.now (mesh at) ≡ true = sym (counted at).answer ∙ c.if-not-items_once.false in
+    record { answer = rw (tested _ _ (mesh at), fits at, yes) c.root_fits.ensures; rest = rest _ c.args.tree.now (mesh at) _ _ _ (counted at) }
