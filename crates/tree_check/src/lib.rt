@@ -34,8 +34,9 @@ impl<'t, 'a> Model for Lent<'t, 'a> {
     ghost invariant = { λ l. TreeTest.Lent l.mesh.now l.tree.now };
 }
 
-// What the walk found, if the box of the node encloses what lies below it.
+// What the walk found, if the box of the node encloses what lies below it. A call of its own would copy what was found.
 #[tactic(auto, unfolding(tree::specs::TreeTest::boxed_by))]
+#[inline(always)]
 fn boxed(b: BoundingBox, walked: Walked) -> Option<Walked>
     ensures { result ≡ TreeTest.boxed_by b (Some walked) }
 {
