@@ -1,5 +1,5 @@
-// Document 01's builder rule ('Builder'): the tree that a mesh gets, in specs/Builder.antt. The code is how one step of the
-// builder tells the next how a node's items are split.
+// Document 01's builder rule ('Builder'): the tree that a mesh gets, in specs/Builder.antt. The code is how one
+// step of the builder tells the next how a node's items are split.
 #![tactic(auto)]
 
 ghost use Rattle.std.specs.Prelude.{◌<◌};

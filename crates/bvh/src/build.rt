@@ -20,8 +20,8 @@ fn number_items(items: &mut [u32])
     }
 }
 
-// Questions 1 to 6: a mesh, and lists of these lengths for its tree. The accepted mesh, or the refusal. The lengths are no
-// struct: this is asked in one place, of three lists that C lends one by one.
+// Questions 1 to 6: a mesh, and lists of these lengths for its tree. The accepted mesh, or the refusal.
+// The lengths are no struct: this is asked in one place, of three lists that C lends one by one.
 #[tactic(auto, unfolding(crate::specs::Build::ask_build))]
 pub fn ask_build<'a>(
     mesh: &Mesh<'a>,

@@ -27,7 +27,8 @@ pub fn plane_axes(n: u64) -> Axes
 }
 
 // Whether `p` lies between the planes at `lo` and `hi` normal to axis `norm_dir`, and its projection
-// along that axis in the polygon. The axis is a number: C gives one, and no point lies in a polygon whose axis is above 2.
+// along that axis in the polygon. The axis is a number: C gives one, and no point lies in a polygon whose
+// axis is above 2.
 #[tactic(auto, unfolding(crate::specs::Planes::inside_prism))]
 fn inside_prism(norm_dir: u64, lo: f64, hi: f64, vertices: &[f64], p: Vec3) -> bool
     ensures { result ≡ Planes.inside_prism norm_dir lo hi vertices.now p }

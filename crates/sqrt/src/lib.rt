@@ -49,8 +49,8 @@ fn taken_apart(bits: u64) -> Scaled
     }
 }
 
-// IEEE 754's square root: NaN of NaN and of every negative number, a zero of the same zero. Infinity is told by its bits,
-// since a value is taken apart by bits that lie below them.
+// IEEE 754's square root: NaN of NaN and of every negative number, a zero of the same zero.
+// Infinity is told by its bits, since a value is taken apart by bits that lie below them.
 pub fn root(x: f64) -> f64
     ensures { result ≡ Root.root x }
 {

@@ -33,8 +33,8 @@ fn put_box(boxes: &mut [f64], n: usize, b: BoundingBox)
     ]);
 }
 
-// Writes the start and the count of node `n`. They are cut by `as`, with no `try_from`: the clause says that they fit, so no
-// error could be told.
+// Writes the start and the count of node `n`. They are cut by `as`, with no `try_from`: the clause says that they fit,
+// so no error could be told.
 fn put_node(nodes: &mut [u32], n: usize, start: usize, count: usize)
     requires { (2 * n + 2 ≤ length nodes.old) × (start < 4294967296) × (count < 4294967296) }
     ensures { nodes.new ≡ set (set nodes.old (2 * n) start) (2 * n + 1) count }
