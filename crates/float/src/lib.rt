@@ -10,7 +10,8 @@ ghost use Rattle.float.specs.Rules as Rules;
 ghost use Rattle.float.specs.TotalOrder as TotalOrder;
 
 // The smaller of the two. Of two equal zeros it is the left one, of a NaN and a number the number. (`f64::min` leaves
-// open which of two equal zeros it gives.)
+// open which of two equal zeros it gives.) `min` and `max` stay two, as in the library, and so do `lower` and `higher`:
+// the two of a pair differ in their comparison, and a function that is handed it would be no shorter.
 #[tactic(auto, unfolding(crate::specs::Rules::min), using(crate::specs::Patterns::ne_self))]
 pub fn min(a: f64, b: f64) -> f64
     ensures { result ≡ Rules.min a b }

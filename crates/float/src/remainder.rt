@@ -36,17 +36,19 @@ fn size_of_pattern(pattern: u64) -> Size
 }
 
 // The pattern of a size.
-fn pattern_of_size(digits: u64, exponent: u64) -> u64
-    requires digits_fit { digits < 2 ^ 53 }
-    requires exponent_fits { exponent ≤ 2045 }
-    ensures size { magnitude result ≡ digits * 2 ^ exponent }
+fn pattern_of_size(size: Size) -> u64
+    requires digits_fit { size.digits < 2 ^ 53 }
+    requires exponent_fits { size.exponent ≤ 2045 }
+    ensures size { magnitude result ≡ size.digits * 2 ^ size.exponent }
     ensures finite { result < 2047 * 2 ^ 52 }
 {
-    if digits == 0 {
+    if size.digits == 0 {
         return 0;
     }
-    let places = exponent.min(u64::from(digits.leading_zeros()) - 11);
-    (exponent - places) * FIELD + (digits << places)
+    let places = size
+        .exponent
+        .min(u64::from(size.digits.leading_zeros()) - 11);
+    (size.exponent - places) * FIELD + (size.digits << places)
 }
 
 // What is left of `m * 2^k` divided by `n`.
@@ -90,6 +92,9 @@ pub fn remainder(a: f64, b: f64) -> f64
         return a;
     }
     let by = size_of_pattern(y);
-    let rest = rest_of(from.digits, from.exponent - by.exponent, by.digits);
-    f64::from_bits(bits - x + pattern_of_size(rest, by.exponent))
+    let rest = Size {
+        digits: rest_of(from.digits, from.exponent - by.exponent, by.digits),
+        ..by
+    };
+    f64::from_bits(bits - x + pattern_of_size(rest))
 }

@@ -62,6 +62,6 @@ returns c =
     let below : rest b < 2047 * 2 ^ 52 = omega (arith, c.if-x-y.false, c.if-x-ge-INFINITY.false) in
     let digits = has_size _ _ _ by.joined by.leading above in
     let left = left_parts _ _ _ _ _ _ _ (parts_size _ _ _ from.joined from.few from.leading) (parts_size _ _ _ by.joined by.few by.leading)
-    (ordered _ _ _ _ _ _ from.joined by.joined from.few by.leading c.if-x-y.false) digits c.rest_of-rest.ensures in
+    (ordered _ _ _ _ _ _ from.joined by.joined from.few by.leading c.if-x-y.false) digits c.rest_of.ensures in
     left_over a b (passes (fits binary64 a) c.well_formed.0.1) (passes (fits binary64 b) c.well_formed.1.0.1) c.if-is_nan.ensures.not_nan c.if-is_nan-2.ensures.not_nan c.if-x-ge-INFINITY.false above below
-    _ _ (left_few _ _ _ _ c.rest_of-rest.ensures digits by.few) left _ c.pattern_of_size.ensures.finite c.pattern_of_size.ensures.size
+    _ _ (left_few _ _ _ _ c.rest_of.ensures digits by.few) left _ c.pattern_of_size.ensures.finite c.pattern_of_size.ensures.size
