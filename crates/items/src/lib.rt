@@ -27,7 +27,8 @@ fn all_ones(counts: &[u64]) -> bool
 }
 
 // Whether there are `n` items and each number below `n` stands once among them. The first `n` work places
-// are used for counting; a list of another length is not counted.
+// are used for counting; a list of another length is not counted. It is lent the whole list, since what is promised is said
+// of all of it: the places past `n` stay as they are.
 pub fn items_once(items: &[u32], n: usize, work: &mut [u64]) -> bool
     requires { n ≤ length work.old }
     ensures { Counting.CountsOnce items.now n work.old result work.new }

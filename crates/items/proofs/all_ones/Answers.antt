@@ -1,17 +1,12 @@
 -- `all_ones` meets its contract: the definition goes from the last place down, and the library's from the first place up.
-use Rattle.std.proofs.Common.{◌≡◌, ℕ, zero, suc, ◌≤◌, Bool, true, false, ◌&&◌, eqb, List, length, get_or, take, refl, ◌∙◌, take_all, arith, add-one, le_refl, rules, tests}
+use Rattle.std.proofs.Common.{◌≡◌, ℕ, zero, suc, ◌≤◌, eqb, List, length, get_or, take, refl, ◌∙◌, take_all, arith, add-one, le_refl, rules, tests}
+use Rattle.std.proofs.Math.Bool.{and_comm}
 use Rattle.std.specs.List.{list_all}
 use Rattle.std.proofs.lemmas.Iterator.{YieldsList-from_slice}
 use Rattle.std.proofs.lemmas.Iterator.Search.{all_from_yields_List}
 use Rattle.std.proofs.lemmas.List.Folds.{list_all_more}
 use Rattle.items.specs.Counting.{all_ones}
 use Rattle.items.proofs.all_ones.Goals as goal
-
-and_comm : (a b : Bool) → (a && b) ≡ (b && a)
-and_comm true true = refl
-and_comm true false = refl
-and_comm false true = refl
-and_comm false false = refl
 
 all_ones_take : (n : ℕ) (work : List ℕ) → n ≤ length work → all_ones n work ≡ list_all (λ x. eqb x 1) (take n work)
 unfolding all_ones
