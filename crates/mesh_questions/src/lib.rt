@@ -1,4 +1,5 @@
-// A lent mesh, and document 01's questions 1 to 5 of it. The definitions are in specs/Mesh.antt and specs/Questions.antt.
+// A lent mesh, and document 01's questions 1 to 5 of it. The definitions are in specs/Mesh.antt and
+// specs/Questions.antt.
 #![tactic(auto)]
 
 ghost use Rattle.std.specs.Prelude.{◌≡◌, true, ◌/◌, ◌≤◌, ◌<◌, length, IfSome, IsErrAnd, MatchOption, Ok};
@@ -12,8 +13,8 @@ use math::Vec3;
 use refusal::Refusal;
 use std::marker::Model;
 
-// A lent mesh, whatever numbers it has: x, y, z of each vertex, the vertex numbers face after face, and where the corners
-// of each face end.
+// A lent mesh, whatever numbers it has: x, y, z of each vertex, the vertex numbers face after face, and where the
+// corners of each face end.
 #[derive(Drop)]
 pub struct Mesh<'a> {
     pub coords: &'a [f64],
@@ -85,7 +86,9 @@ fn ask_face(vertices: usize, number: u32, face: &[u32]) -> Result<(), Refusal>
     Ok(())
 }
 
-// Questions 3 and 4, face by face.
+// Questions 3 and 4, face by face. The start is carried by hand: an iterator of the faces would have to carry that the
+// ends fit, which no type of a lent mesh says. A face's number is cut by `as`, with no `try_from`: there are 65,536
+// faces at most, so no error could be told.
 #[tactic(auto, using(crate::specs::QuestionLaws::ends_fit_step, crate::specs::QuestionLaws::ends_fit_le))]
 fn ask_faces(vertices: usize, corners: &[u32], ends: &[u32]) -> Result<(), Refusal>
     requires { (length ends.now ≤ 65536) × (Questions.ends_fit 0 (length corners.now) ends.now ≡ true) }
@@ -109,16 +112,14 @@ pub fn first_not_finite(list: &[f64]) -> Option<usize>
     points.iter().position(|p| !Vec3::from(*p).is_finite())
 }
 
-// Is each point of a list finite? If not, the refusal that the caller names for the first that is not.
+// Is each point of a list finite? If not, the refusal that the caller names for the first that is not. The point's
+// number is cut by `as`, as a face's: there are 65,536 points at most.
 pub fn ask_finite<F: FnOnce(u32) -> Refusal>(list: &[f64], refusal: F) -> Result<(), Refusal>
     requires few { length list.now ≤ 196608 }
     requires callable { F.IsAlwaysCallable refusal }
     ensures { MatchOption (QuestionLaws.first_not_finite 0 (points list.now)) (result ≡ Ok tt) (λ i. IsErrAnd result (F.post refusal i)) }
 {
-    match first_not_finite(list) {
-        Some(i) => Err(refusal(i as u32)),
-        None => Ok(()),
-    }
+    first_not_finite(list).map_or(Ok(()), |i| Err(refusal(i as u32)))
 }
 
 // Question 5: is each coordinate finite?

@@ -1,5 +1,6 @@
 -- `ends_fit` meets its contract: ends that never fall fit if the last is the corner count (`rising`), and others do not (`falling`).
-use Rattle.std.proofs.Common.{◌≡◌, ℕ, zero, suc, ◌-◌, ◌≤◌, ◌<◌, Bool, true, false, ◌&&◌, leb, eqb, List, [], ◌∷◌, length, get_or, refl, sym, ◌∙◌, arith, add-one, le-leb}
+use Rattle.std.proofs.Common.{◌≡◌, ℕ, zero, suc, ◌-◌, ◌≤◌, ◌<◌, false, leb, eqb, List, [], ◌∷◌, length, get_or, refl, sym, ◌∙◌, arith, add-one, le-leb}
+use Rattle.std.proofs.Math.Bool.{and-false}
 use Rattle.std.proofs.lemmas.Bool.{lt-leb}
 use Rattle.std.proofs.lemmas.List.{get_or_past}
 use Rattle.std.specs.List.Sorted.{IsNonDecreasing}
@@ -36,17 +37,13 @@ unfolding ends_fit last
 rising_all corners [] h = refl
 rising_all corners (end ∷ rest) h = rw (le-leb 0 end (omega arith)) (rising end corners rest h)
 
-not_both : (a : Bool) → (a && false) ≡ false
-not_both true = refl
-not_both false = refl
-
 falling : (before corners : ℕ) (ends : List ℕ) (k : ℕ) → suc k < length ends → get_or ends (suc k) 0 < get_or ends k 0 → ends_fit before corners ends ≡ false
 unfolding ends_fit
 falling before corners [] k h f = absurd (omega arith)
 falling before corners (end ∷ []) k h f = absurd (omega arith)
-falling before corners (end ∷ next ∷ rest) zero h f = rw (lt-leb end next f) (not_both (leb before end))
+falling before corners (end ∷ next ∷ rest) zero h f = rw (lt-leb end next f) (and-false (leb before end))
 falling before corners (end ∷ next ∷ rest) (suc k) h f =
-    rw (falling end corners (next ∷ rest) k (omega arith) f) (not_both (leb before end))
+    rw (falling end corners (next ∷ rest) k (omega arith) f) (and-false (leb before end))
 
 pub returns-then-is_sorted : goal.returns-then-is_sorted
 returns-then-is_sorted c =
