@@ -31,17 +31,14 @@ impl Cell for f64 {
 
     #[tactic(auto, unfolding(text::specs::Lines::is_count, crate::specs::Numbers::float_of))]
     fn of(number: Option<Number>) -> f64 {
-        match number {
-            None => 0.0,
-            Some(count) => {
-                let size = count.magnitude as f64;
-                if count.negative { -size } else { size }
-            }
-        }
+        number.map_or(0.0, |count| {
+            let size = count.magnitude as f64;
+            if count.negative { -size } else { size }
+        })
     }
 }
 
-// A corner is a vertex number.
+// A corner is a vertex number. It is cut by `as`, with no `try_from`: it is 511 at most, so no error could be told.
 impl Cell for u32 {
     ghost fits = { Lines.is_corner };
 
@@ -59,7 +56,7 @@ pub fn fill<T: Cell>(text: &[u8], list: &mut [T])
     ensures { list.new ≡ over (Numbers.numbers_of T.becomes (Lines.lines text.now)) list.old }
 {
     let (lines, _) = text.as_chunks::<36>();
-    // Places by number: of what `chunks_exact_mut` lends, a proof knows the length alone.
+    // Places by number: `chunks_exact_mut` says what each chunk holds, not what the whole list ends as.
     for (i, line) in lines.iter().enumerate() {
         list[3 * i..3 * i + 3].copy_from_slice(&[
             T::of(number_at(line, 0)),
@@ -69,7 +66,8 @@ pub fn fill<T: Cell>(text: &[u8], list: &mut [T])
     }
 }
 
-// Writes the face ends of so many triangles.
+// Writes the face ends of so many triangles. It is lent the whole list, since what is promised is said of all of it
+// (`over`). A triangle's number is cut by `as`, with no `try_from`: it is below 512, so no error could be told.
 pub fn fill_ends(triangles: usize, ends: &mut [u32])
     requires { (triangles ≤ 512) × (triangles ≤ length ends.old) }
     ensures { ends.new ≡ over (Numbers.ends_from 0 triangles) ends.old }
