@@ -85,6 +85,7 @@ pub fn write_field(n: u64, field: &mut [u8])
     let mut rest = n;
     // By place: no element says where the blanks in front of it end.
     for i in (0..field.len()).rev() {
+        // Cut by `as`, with no `try_from`: a remainder by 10 fits, so no error could be told.
         field[i] = b'0' + (rest % 10) as u8;
         rest /= 10;
         if rest == 0 {

@@ -26,9 +26,9 @@ fn all_ones(counts: &[u64]) -> bool
     counts.iter().all(|count| *count == 1)
 }
 
-// Whether there are `n` items and each number below `n` stands once among them. The first `n` work places
-// are used for counting; a list of another length is not counted. It is lent the whole list, since what is promised is said
-// of all of it: the places past `n` stay as they are.
+// Whether there are `n` items and each number below `n` stands once among them. The first `n` work places are used for
+// counting; a list of another length is not counted. It is lent the whole list, since what is promised is said of all
+// of it: the places past `n` stay as they are.
 pub fn items_once(items: &[u32], n: usize, work: &mut [u64]) -> bool
     requires { n ≤ length work.old }
     ensures { Counting.CountsOnce items.now n work.old result work.new }

@@ -4,7 +4,7 @@
 ghost use Rattle.std.specs.Prelude.{◌≡◌, ◌≤◌, length, replicate};
 ghost use Rattle.lent.specs.Over.{over};
 
-// Writes 0 into the first `n` places.
+// Writes 0 into the first `n` places. It is lent the whole list, since what is promised is said of all of it (`over`).
 #[tactic(auto, unfolding(crate::specs::Over::over))]
 pub fn clear(work: &mut [u64], n: usize)
     requires { n ≤ length work.old }

@@ -31,7 +31,7 @@ fn write_rows(answers: &[u8], rows: &mut [u8])
     requires { (length answers.now ≤ 512) × (10 * length answers.now ≤ length rows.old) }
     ensures { rows.new ≡ over (Listing.rows 0 answers.now) rows.old }
 {
-    // Rows by place: of what `chunks_exact_mut` lends, a proof knows the length alone.
+    // Rows by place: `chunks_exact_mut` says what each chunk holds, not what the whole list ends as.
     for (i, answer) in answers.iter().enumerate() {
         write_line(
             6,

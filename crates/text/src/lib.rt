@@ -129,7 +129,8 @@ fn counted(counts: Counts, kind: Kind) -> Counts
     }
 }
 
-// How many lines there are of each kind, or the first bad line by its number, the lines counted from `first`.
+// How many lines there are of each kind, or the first bad line by its number, the lines counted from `first`. The count
+// is cut by `as`, with no `try_from`: at most 1,024 lines were counted, so it fits and no error could be told.
 pub fn judge_text(text: &[u8], first: u32) -> Result<Counts, u32>
     requires { first + 1024 < 4294967296 }
     ensures { result ≡ Lines.judge first Lines.none (Lines.lines text.now) }
