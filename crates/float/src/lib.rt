@@ -75,7 +75,8 @@ pub fn is_finite(x: f64) -> bool
     x.is_finite()
 }
 
-// `a % b`, moved up by |b| where it is negative. (`f64::rem_euclid` calls C's `fmod`, which `remainder` is here to avoid.)
+// `a % b`, moved up by |b| where it is negative. (`f64::rem_euclid` calls C's `fmod`, which `remainder` is here to
+// avoid.)
 #[tactic(auto, unfolding(crate::specs::Rules::rem_euclid))]
 pub fn rem_euclid(a: f64, b: f64) -> f64
     ensures { result ≡ Rules.rem_euclid a b }

@@ -1,5 +1,5 @@
-// The remainder of a division of floats, worked out from the bits with whole numbers. A program that calls C's `fmod`, as
-// `%` does, starts only where the C library is as new as the one that it was linked with.
+// The remainder of a division of floats, worked out from the bits with whole numbers. A program that calls C's `fmod`,
+// as `%` does, starts only where the C library is as new as the one that it was linked with.
 ghost use Rattle.std.specs.Prelude.{◌≡◌, ◌+◌, ◌-◌, ◌*◌, ◌%◌, ◌^◌, ◌<◌, ◌≤◌, ◌⊎◌};
 ghost use Rattle.std.specs.Float.Ieee.{binary64, rem};
 ghost use Rattle.float.specs.OrderTheorems.Pattern.{magnitude};

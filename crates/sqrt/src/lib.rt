@@ -11,7 +11,7 @@ ghost use Rattle.sqrt.specs.Steps.{Scales};
 use crate::significand::nearest_root;
 
 // A positive finite value as 53 digits and an exponent: (2^52 + digits % 2^52) * 2^g / 2^2148. It is not the `Size` of
-// float's remainder: here the digits of a subnormal value are moved up, and there they cannot be, since its exponent is 0.
+// float's remainder, where the digits of a subnormal value cannot be moved up, as they are here: its exponent is 0.
 #[derive(Clone, Copy)]
 pub struct Scaled {
     pub digits: u64,
@@ -50,9 +50,9 @@ fn taken_apart(bits: u64) -> Scaled
     }
 }
 
-// IEEE 754's square root: NaN of NaN and of every negative number, a zero of the same zero. Infinity is told by its bits,
-// since a value is taken apart by bits that lie below them. No `f64::sqrt`: that is the processor's instruction, which is
-// taken to give IEEE 754's root; that this gives it is proved (proofs/RootTheorem.antt).
+// IEEE 754's square root: NaN of NaN and of every negative number, a zero of the same zero. Infinity is told by its
+// bits, since a value is taken apart by bits that lie below them. No `f64::sqrt`: that is the processor's instruction,
+// which is taken to give IEEE 754's root; that this gives it is proved (proofs/RootTheorem.antt).
 pub fn root(x: f64) -> f64
     ensures { result ≡ Root.root x }
 {
