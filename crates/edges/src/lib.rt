@@ -35,7 +35,7 @@ fn face_keys(face: &[u32], work: &mut [u64])
 // Writes the keys of all edges, one a corner, face after face. The start is carried by hand: it is a place in `work`
 // too, and an iterator of the faces would have to carry that the ends fit. Here and below `corners` and `ends` are no
 // struct: two of the three functions ask the same facts of them, but an accepted mesh would ask more of the callers,
-// that its coordinates are finite.
+// that its coordinates are finite. That `work` has room is a clause: C lends it, and question 6 asks how long it is.
 fn fill_keys(corners: &[u32], ends: &[u32], work: &mut [u64])
     requires ends_value { ends_fit 0 (length corners.now) ends.now ≡ true }
     requires corners_in_bounds { length corners.now ≤ length work.old }

@@ -14,7 +14,7 @@ use refusal::Refusal;
 use std::marker::Model;
 
 // A lent mesh, whatever numbers it has: x, y, z of each vertex, the vertex numbers face after face, and where the
-// corners of each face end.
+// corners of each face end. C lends it as these three lists.
 #[derive(Drop)]
 pub struct Mesh<'a> {
     pub coords: &'a [f64],
