@@ -2,7 +2,7 @@
 // The definitions are in specs/Vectors.antt and specs/Boxes.antt, for the corners of a triangle in specs/Corners.antt.
 #![tactic(auto)]
 
-ghost use Rattle.std.specs.Prelude.{◌≡◌, ◌+◌, ◌<◌, length};
+ghost use Rattle.std.specs.Prelude.{◌≡◌, ◌+◌, ◌<◌, [], ◌∷◌, length};
 ghost use Rattle.float.specs.Order.{Number};
 ghost use Rattle.math.specs.Vectors as Vectors;
 ghost use Rattle.math.specs.Boxes as Boxes;
@@ -10,8 +10,8 @@ ghost use Rattle.math.specs.Corners as Corners;
 
 use std::ops::{Add, Mul, Sub};
 
-// A point or a direction.
-#[derive(Clone, Copy)]
+// A point or a direction. Two are equal if their numbers are.
+#[derive(Clone, Copy, PartialEq)]
 pub struct Vec3 {
     pub x: f64,
     pub y: f64,
@@ -120,6 +120,15 @@ impl From<[f64; 3]> for Vec3 {
     fn from(p: [f64; 3]) -> Vec3 {
         let [x, y, z] = p;
         Vec3 { x, y, z }
+    }
+}
+
+// The three numbers of a vector.
+impl From<Vec3> for [f64; 3] {
+    ghost from_gives = { λ v r. r ≡ v.x ∷ v.y ∷ v.z ∷ [] };
+
+    fn from(v: Vec3) -> [f64; 3] {
+        [v.x, v.y, v.z]
     }
 }
 
@@ -286,6 +295,15 @@ impl BoundingBox {
     }
 }
 
+// The six edges of a box: the numbers of its lower corner, then those of its upper one.
+impl From<BoundingBox> for [f64; 6] {
+    ghost from_gives = { λ b r. r ≡ b.min.x ∷ b.min.y ∷ b.min.z ∷ b.max.x ∷ b.max.y ∷ b.max.z ∷ [] };
+
+    fn from(b: BoundingBox) -> [f64; 6] {
+        [b.min.x, b.min.y, b.min.z, b.max.x, b.max.y, b.max.z]
+    }
+}
+
 // The corners of a triangle.
 #[derive(Clone, Copy)]
 pub struct CornerPoints {
@@ -295,7 +313,7 @@ pub struct CornerPoints {
 }
 
 // The lowest of three, the first two of which are no NaN.
-fn lowest(a: f64, b: f64, c: f64) -> f64
+pub fn lowest(a: f64, b: f64, c: f64) -> f64
     requires { Number a × Number b }
     ensures { result ≡ Corners.lowest a b c }
 {
@@ -303,7 +321,7 @@ fn lowest(a: f64, b: f64, c: f64) -> f64
 }
 
 // The highest of three, the first two of which are no NaN.
-fn highest(a: f64, b: f64, c: f64) -> f64
+pub fn highest(a: f64, b: f64, c: f64) -> f64
     requires { Number a × Number b }
     ensures { result ≡ Corners.highest a b c }
 {
