@@ -38,6 +38,30 @@ fn products_of(p: Vec3, t: CornerPoints) -> Products
     }
 }
 
+impl Products {
+    // csx's va, vb and vc: the weights of the three corners where the point is over the triangle, before their sum divides them.
+    #[tactic(auto, unfolding(crate::specs::Closest::va))]
+    fn va(self) -> f64
+        ensures { result ≡ Closest.va self }
+    {
+        self.d3 * self.d6 - self.d5 * self.d4
+    }
+
+    #[tactic(auto, unfolding(crate::specs::Closest::vb))]
+    fn vb(self) -> f64
+        ensures { result ≡ Closest.vb self }
+    {
+        self.d5 * self.d2 - self.d1 * self.d6
+    }
+
+    #[tactic(auto, unfolding(crate::specs::Closest::vc))]
+    fn vc(self) -> f64
+        ensures { result ≡ Closest.vc self }
+    {
+        self.d1 * self.d4 - self.d3 * self.d2
+    }
+}
+
 // The point at t times the way d from a.
 #[tactic(auto, unfolding(crate::specs::Closest::along))]
 fn along(a: Vec3, d: Vec3, t: f64) -> Vec3
@@ -47,13 +71,13 @@ fn along(a: Vec3, d: Vec3, t: f64) -> Vec3
 }
 
 // The nearest point where it lies inside the triangle.
-#[tactic(auto, unfolding(crate::specs::Closest::inner, crate::specs::Closest::va, crate::specs::Closest::vb, crate::specs::Closest::vc))]
+#[tactic(auto, unfolding(crate::specs::Closest::inner))]
 fn inner(t: CornerPoints, d: Products) -> Vec3
     ensures { result ≡ Closest.inner t.a t.b t.c d }
 {
-    let va = d.d3 * d.d6 - d.d5 * d.d4;
-    let vb = d.d5 * d.d2 - d.d1 * d.d6;
-    let vc = d.d1 * d.d4 - d.d3 * d.d2;
+    let va = d.va();
+    let vb = d.vb();
+    let vc = d.vc();
     let denom = va + vb + vc;
     if denom == 0.0 {
         return t.a;
@@ -62,7 +86,7 @@ fn inner(t: CornerPoints, d: Products) -> Vec3
 }
 
 // The nearest point: a corner, on an edge, or inside, the first whose test holds.
-#[tactic(auto, unfolding(crate::specs::Closest::nearest, crate::specs::Closest::va, crate::specs::Closest::vb, crate::specs::Closest::vc))]
+#[tactic(auto, unfolding(crate::specs::Closest::nearest))]
 fn nearest(t: CornerPoints, d: Products) -> Vec3
     ensures { result ≡ Closest.nearest t.a t.b t.c d }
 {
@@ -72,18 +96,18 @@ fn nearest(t: CornerPoints, d: Products) -> Vec3
     if (d.d3 >= 0.0) & (d.d4 <= d.d3) {
         return t.b;
     }
-    let vc = d.d1 * d.d4 - d.d3 * d.d2;
+    let vc = d.vc();
     if (vc <= 0.0) & (d.d1 >= 0.0) & (d.d3 <= 0.0) {
         return along(t.a, t.b - t.a, d.d1 / (d.d1 - d.d3));
     }
     if (d.d6 >= 0.0) & (d.d5 <= d.d6) {
         return t.c;
     }
-    let vb = d.d5 * d.d2 - d.d1 * d.d6;
+    let vb = d.vb();
     if (vb <= 0.0) & (d.d2 >= 0.0) & (d.d6 <= 0.0) {
         return along(t.a, t.c - t.a, d.d2 / (d.d2 - d.d6));
     }
-    let va = d.d3 * d.d6 - d.d5 * d.d4;
+    let va = d.va();
     let from_b = d.d4 - d.d3;
     let from_c = d.d5 - d.d6;
     if (va <= 0.0) & (from_b >= 0.0) & (from_c >= 0.0) {
