@@ -125,13 +125,15 @@ fn crosses(p: Point2, i: Point2, j: Point2) -> bool
     }
 }
 
-// The vertex with these two numbers.
-#[tactic(auto, unfolding(crate::specs::Polygons::vertex))]
-fn vertex(pair: &[f64; 2]) -> Point2
-    ensures { result ≡ Polygons.vertex pair.now 0 }
-{
-    let [u, v] = *pair;
-    Point2 { u, v }
+// The point with these two numbers.
+impl From<[f64; 2]> for Point2 {
+    ghost from_gives = { λ pair r. r ≡ Polygons.vertex pair 0 };
+
+    #[tactic(auto, unfolding(crate::specs::Polygons::vertex))]
+    fn from(pair: [f64; 2]) -> Point2 {
+        let [u, v] = pair;
+        Point2 { u, v }
+    }
 }
 
 // Whether `p` lies in the polygon, whose list has the u and v of each vertex, by the even-odd rule; its edges count as
@@ -145,9 +147,9 @@ pub fn point_in_polygon(p: Point2, poly: &[f64]) -> bool
     };
     let eps = tol_of(scale(poly));
     let mut inside = false;
-    let mut j = vertex(last);
+    let mut j = Point2::from(*last);
     for pair in vertices {
-        let i = vertex(pair);
+        let i = Point2::from(*pair);
         if dist_point_segment_2d(p, i, j) <= eps {
             return true;
         }
