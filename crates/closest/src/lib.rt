@@ -39,7 +39,7 @@ fn products_of(p: Vec3, t: CornerPoints) -> Products
 }
 
 impl Products {
-    // csx's va, vb and vc: the weights of the three corners where the point is over the triangle, before their sum divides them.
+    // csx's va, vb and vc: the corners' weights where the nearest point lies inside, not yet divided by their sum.
     #[tactic(auto, unfolding(crate::specs::Closest::va))]
     fn va(self) -> f64
         ensures { result ≡ Closest.va self }
