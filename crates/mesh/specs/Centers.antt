@@ -3,8 +3,7 @@ use Rattle.std.specs.Prelude.{ℕ, zero, suc, ◌+◌, ◌*◌, ◌<◌, ◌≡�
 use Rattle.std.proofs.Common.{arith}
 use Rattle.std.specs.Float.{nan}
 use Rattle.float.specs.Arithmetic.{◌⊕◌, ◌⊗◌, half}
-use Rattle.float.specs.Order.{Number, min_number, max_number, min_top, max_bottom}
-use Rattle.float.specs.Rules.{min, max}
+use Rattle.float.specs.Order.{Number}
 use Rattle.math.specs.Vectors as Vectors
 use Rattle.math.specs.Vectors.{component}
 use Rattle.math.specs.Boxes.{empty, is_empty, include, center}
@@ -41,29 +40,9 @@ number_on coords v (suc zero) h e = (Points.numbers (Vectors.at coords (3 * v)) 
 number_on coords v (suc (suc zero)) h e = (Points.numbers (Vectors.at coords (3 * v)) e).2
 number_on coords v (suc (suc (suc axis))) h e = absurd (omega arith)
 
--- the numbers of a triangle with finite corners on an axis: they are no NaNs, nor are the lower and the higher of the first two, and the centre is found without the
--- infinities that the definition starts from
-module _ (coords : List Float) (t : Triangle) (axis : Axis) (f : Finite coords t) where
-  abbrev a : Float
-  a = get_or coords (3 * t.a + place axis) nan
-
-  abbrev b : Float
-  b = get_or coords (3 * t.b + place axis) nan
-
-  abbrev c : Float
-  c = get_or coords (3 * t.c + place axis) nan
-
-  pub first_on : Number a
-  first_on = number_on coords t.a (place axis) (place_lt axis) f.a
-
-  second_on : Number b
-  second_on = number_on coords t.b (place axis) (place_lt axis) f.b
-
-  pub lower_on : Number (min a b)
-  lower_on = min_number a b first_on second_on
-
-  pub higher_on : Number (max a b)
-  higher_on = max_number a b first_on second_on
-
-  pub center_of_numbers : (min (min a b) c ⊕ max (max a b) c) ⊗ half ≡ component (triangle_center coords t) (place axis)
-  center_of_numbers = rw (center_on_lem coords t (place axis) (place_lt axis), min_top a first_on, max_bottom a first_on)
+-- so the numbers of the first two corners of a triangle with finite corners are none
+pub first_two : (coords : List Float) (t : Triangle) (axis : Axis) → Finite coords t
+    → Number (get_or coords (3 * t.a + place axis) nan) × Number (get_or coords (3 * t.b + place axis) nan)
+first_two coords t axis f =
+    let number = λ (v : ℕ). number_on coords v (place axis) (place_lt axis) in
+    (number t.a f.a, number t.b f.b)

@@ -9,8 +9,7 @@ ghost use Rattle.mesh.specs.Items as Items;
 ghost use Rattle.mesh.specs.Mesh as Mesh;
 
 use crate::{AcceptedMesh, Axis, Triangle};
-use float::{higher, lower};
-use math::{BoundingBox, CornerPoints, Vec3};
+use math::{BoundingBox, CornerPoints, Vec3, highest, lowest};
 
 // What is computed of a mesh once for a list of points.
 #[derive(Clone, Copy)]
@@ -61,6 +60,18 @@ impl Axis {
     }
 }
 
+// The centre of a triangle's own box on an axis, where its corners are finite: that axis alone is worked out.
+pub fn center_on(coords: &[f64], t: Triangle, axis: Axis) -> f64
+    requires { Boxes.Corners coords.now t × Boxes.Finite coords.now t }
+    ensures { result ≡ component (Boxes.triangle_center coords.now t) (Axes.place axis) }
+{
+    let k = axis.place();
+    let a = coords[3 * (t.a as usize) + k];
+    let b = coords[3 * (t.b as usize) + k];
+    let c = coords[3 * (t.c as usize) + k];
+    (lowest(a, b, c) + highest(a, b, c)) * 0.5
+}
+
 impl<'a> AcceptedMesh<'a> {
     // The corners of triangle `t`.
     pub fn corner_points(&self, t: u32) -> CornerPoints
@@ -85,17 +96,12 @@ impl<'a> AcceptedMesh<'a> {
         self.corner_points(t).own_box()
     }
 
-    // The centre of the own box of triangle `t` on an axis: that axis alone is worked out.
+    // The centre of the own box of triangle `t` on an axis.
     pub fn center_on(&self, t: u32, axis: Axis) -> f64
         requires { t < length self.now.corners - 2 * length self.now.ends }
         ensures { result ≡ component (Boxes.triangle_center self.now.coords (Mesh.triangle_at self.now t)) (Axes.place axis) }
     {
-        let triangle = self.triangle(t as usize);
-        let k = axis.place();
-        let a = self.coords[3 * (triangle.a as usize) + k];
-        let b = self.coords[3 * (triangle.b as usize) + k];
-        let c = self.coords[3 * (triangle.c as usize) + k];
-        (lower(lower(a, b), c) + higher(higher(a, b), c)) * 0.5
+        center_on(self.coords, self.triangle(t as usize), axis)
     }
 
     // The own boxes of some triangles joined in their order, starting with the first one's.
