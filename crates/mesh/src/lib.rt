@@ -42,7 +42,10 @@ pub enum Axis {
 }
 
 // A mesh that questions 1 to 5 let pass, and how its triangles are found quickly. It has the lists of `Mesh` as its own:
-// they are read in every crate above, and through a `Mesh` in it each of those places would be longer.
+// this crate, extent, points, probes and tree_check read them, and each of those places would be longer through a `Mesh`.
+//
+// That a number is one of a triangle of the mesh, or that all items are, stands in the contracts of the functions that take
+// them and in no type: C lends plain numbers, and a type for one would have to carry its mesh.
 #[derive(Drop)]
 pub struct AcceptedMesh<'a> {
     pub coords: &'a [f64],

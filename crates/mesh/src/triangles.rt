@@ -58,7 +58,7 @@ fn search(ends: &[u32], t: usize) -> usize
     let mut lo = 0;
     let mut hi = ends.len();
     while lo + 1 < hi {
-        let mid = lo + (hi - lo) / 2;
+        let mid = (lo + hi) / 2;
         if ends[mid - 1] as usize <= t + 2 * mid {
             lo = mid;
         } else {

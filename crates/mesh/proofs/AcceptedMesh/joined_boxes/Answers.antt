@@ -1,27 +1,22 @@
-use Prim.Native.Nat.{ℕ, ◌+◌, ◌-◌}
+use Prim.Native.Nat.{◌+◌, ◌-◌}
 use native.Mathlib.Omega.{arith}
-use mathlib.Core.Path.{◌≡◌, sym, ◌∙◌}
-use mathlib.Core.List.{List}
+use mathlib.Core.Path.{sym, ◌∙◌}
 use lib.ListN.{length, take, drop, length-drop, drop_of_length-le}
 use Rattle.std.proofs.Common.{get_or-drop}
-use Rattle.std.proofs.Math.Seq.{take-length}
+use Rattle.mesh.specs.Items.{behind}
 use Rattle.mesh.specs.Mesh.{join_all}
 use Rattle.mesh.specs.MeshLaws.{node_box_first, join_all_next}
 use Rattle.mesh.proofs.AcceptedMesh.joined_boxes.Goals as goal
 
--- the items behind the first
-behind : (items : List ℕ) → take (length items - 1) (drop 1 items) ≡ drop 1 items
-behind items = rw (← length-drop 1 items) (take-length (drop 1 items))
-
 pub loop-t-init : goal.loop-t-init
-loop-t-init c = rw (behind c.args.items.now, c.own_box-b.ensures) (sym (node_box_first c.args.self.now c.args.items.now c.requires.some))
+loop-t-init c = rw (behind c.args.items.now 1, c.own_box-b.ensures) (sym (node_box_first c.args.self.now c.args.items.now c.requires.some))
 
 pub own_box-requires : goal.own_box-requires
 own_box-requires c =
     let items = c.args.items.now in
     let i = c.loop-t.t-index in
-    let within = rw (behind items, length-drop 1 items) at c.loop-t-test.true in
-    rw (behind items, get_or-drop 1 items i 0) (c.requires.items (1 + i) (omega (arith, within)))
+    let within = rw (behind items 1, length-drop 1 items) at c.loop-t-test.true in
+    rw (behind items 1, get_or-drop 1 items i 0) (c.requires.items (1 + i) (omega (arith, within)))
 
 pub loop-t-preserved : goal.loop-t-preserved
 loop-t-preserved c =

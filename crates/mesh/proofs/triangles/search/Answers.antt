@@ -10,16 +10,16 @@ unfolding start_from
 loop-lo-init c = (some_face c.args.ends.now c.args.t c.requires.2, omega arith, omega arith, c.requires.2)
 
 pub overflow_cast-ends : goal.overflow_cast-ends
-overflow_cast-ends c = omega (arith, c.type_inv.ends (c.loop-lo.lo + (c.loop-lo.hi - c.loop-lo.lo) / 2 - 1))
+overflow_cast-ends c = omega (arith, c.type_inv.ends ((c.loop-lo.lo + c.loop-lo.hi) / 2 - 1))
 
 pub loop-lo-preserved-then-ends-mid : goal.loop-lo-preserved-then-ends-mid
 loop-lo-preserved-then-ends-mid c =
-    let begin = start_from_before 0 c.args.ends.now (c.loop-lo.lo + (c.loop-lo.hi - c.loop-lo.lo) / 2) (omega arith) (omega arith) in
+    let begin = start_from_before 0 c.args.ends.now ((c.loop-lo.lo + c.loop-lo.hi) / 2) (omega arith) (omega arith) in
     (omega arith, omega arith, omega arith, c.loop-lo.invariant.3)
 
 pub loop-lo-preserved : goal.loop-lo-preserved
 loop-lo-preserved c =
-    let begin = start_from_before 0 c.args.ends.now (c.loop-lo.lo + (c.loop-lo.hi - c.loop-lo.lo) / 2) (omega arith) (omega arith) in
+    let begin = start_from_before 0 c.args.ends.now ((c.loop-lo.lo + c.loop-lo.hi) / 2) (omega arith) (omega arith) in
     (omega arith, omega arith, c.loop-lo.invariant.2, omega arith)
 
 pub returns : goal.returns
