@@ -25,13 +25,13 @@ fn find_vertex(vertices: &[f64], p: Vec3) -> Option<usize>
     ensures { Finds (points vertices.now) p result }
 {
     let (vertices, _) = vertices.as_chunks::<3>();
-    vertices
-        .iter()
-        .position(|[x, y, z]| *x == p.x && *y == p.y && *z == p.z)
+    vertices.iter().position(|v| Vec3::from(*v) == p)
 }
 
-// The number of `p` among the first `count` vertices, behind which it is written unless one is the same. Here and below a
-// list and how much of it is written are two parameters: lists are lent at a fixed length, and no heap gives a Vec.
+// The number of `p` among the first `count` vertices, behind which it is written unless one is the same. Here and below the
+// lists and how much of them is written are no struct: vertices have one list and faces two, so it would be two types, each
+// made in one place and taken apart there for `Counts`. Numbers are cut by `as`, with no `try_from`: the bounds of the counts
+// say that they fit, so no error could be told.
 fn add_vertex(coords: &mut [f64], count: &mut usize, p: Vec3) -> u32
     requires count_in_bounds { 3 * count.old + 2 < length coords.old }
     requires count_bound { count.old < 65536 }
@@ -41,7 +41,7 @@ fn add_vertex(coords: &mut [f64], count: &mut usize, p: Vec3) -> u32
     if let Some(found) = find_vertex(&coords[..3 * n], p) {
         return found as u32;
     }
-    coords[3 * n..3 * n + 3].copy_from_slice(&[p.x, p.y, p.z]);
+    coords[3 * n..3 * n + 3].copy_from_slice(&<[f64; 3]>::from(p));
     *count = n + 1;
     n as u32
 }
@@ -90,7 +90,8 @@ fn weld_all(triangles: &[f64], coords: &mut [f64], corners: &mut [u32], ends: &m
     counts
 }
 
-// Questions 1, 5 and 6, with the lengths of the buffers.
+// Questions 1, 5 and 6, with the lengths of the buffers. They are no struct: it is asked in two places, of three lists that
+// C lends one by one.
 #[tactic(auto, using(crate::specs::Passed::whole_passed), unfolding(crate::specs::Questions::ask_triangles, crate::specs::Questions::whole_triangles, crate::specs::Questions::ask_corners, crate::specs::Questions::room))]
 pub fn ask_triangles(
     triangles: &[f64],

@@ -2,7 +2,7 @@
 -- (`adds_new`).
 use Prim.Native.Nat.{ℕ, ◌+◌, ◌*◌, ◌<◌}
 use native.Mathlib.Omega.{arith}
-use mathlib.Core.Path.{◌≡◌, sym}
+use mathlib.Core.Path.{◌≡◌, sym, ◌∙◌}
 use mathlib.Core.List.{List, [], ◌∷◌, ◌++◌}
 use lib.Ieee.{Float}
 use lib.ListN.{length, take, drop, length-append}
@@ -47,4 +47,4 @@ pub returns : goal.returns
 unfolding first
 returns c =
     let a = c.args in
-    adds_new a.count.now a.coords.now a.p (omega arith) _ _ (omega arith) c.copy_from_slice.ensures.after (rw c.in_default.is at c.find_vertex.ensures)
+    adds_new a.count.now a.coords.now a.p (omega arith) _ _ (omega arith) (c.copy_from_slice.ensures.after ∙ c.from.ensures) (rw c.in_default.is at c.find_vertex.ensures)
