@@ -2,15 +2,9 @@
 // proved safe, and the driver compares what it writes.
 ghost use Rattle.std.specs.Prelude.{◌-◌, ◌*◌, ◌≡◌, ◌≤◌, ◌<◌, length};
 
-use math::BoundingBox;
 use mesh::AcceptedMesh;
 use mesh_questions::Mesh;
-use refusal::Refusal;
-
-// The edges of a box.
-fn edges_of(b: BoundingBox) -> [f64; 6] {
-    [b.min.x, b.min.y, b.min.z, b.max.x, b.max.y, b.max.z]
-}
+use refusal::{Refusal, returned};
 
 // Writes the vertex numbers of a triangle, its own box and its centre.
 fn put_triangle(mesh: &AcceptedMesh, t: usize, out: &mut [f64])
@@ -25,8 +19,8 @@ fn put_triangle(mesh: &AcceptedMesh, t: usize, out: &mut [f64])
         f64::from(corners.b),
         f64::from(corners.c),
     ]);
-    out[3..9].copy_from_slice(&edges_of(own_box));
-    out[9..].copy_from_slice(&[center.x, center.y, center.z]);
+    out[3..9].copy_from_slice(&<[f64; 6]>::from(own_box));
+    out[9..].copy_from_slice(&<[f64; 3]>::from(center));
 }
 
 // Writes that of the first triangles, as many as have room.
@@ -42,8 +36,8 @@ fn put_mesh(coords: &[f64], out: &mut [f64])
     requires { 13 ≤ length out.old }
 {
     let prepared = mesh::boxes::prepare(coords);
-    out[..6].copy_from_slice(&edges_of(mesh::boxes::mesh_box(coords)));
-    out[6..12].copy_from_slice(&edges_of(prepared.grown));
+    out[..6].copy_from_slice(&<[f64; 6]>::from(mesh::boxes::mesh_box(coords)));
+    out[6..12].copy_from_slice(&<[f64; 6]>::from(prepared.grown));
     out[12] = prepared.eps;
 }
 
@@ -77,8 +71,5 @@ pub extern "C" fn probe_mesh(
         corners,
         ends,
     };
-    match probed(&mesh, work, out) {
-        Ok(closed) => u64::from(closed),
-        Err(refusal) => refusal.code(),
-    }
+    returned(probed(&mesh, work, out).map(u64::from))
 }
