@@ -1,5 +1,5 @@
 -- The laws by which the loops over a node's items meet the definitions of specs/Extent.antt.
-use Rattle.std.specs.Prelude.{ℕ, ◌+◌, ◌<◌, ◌≡◌, List, [], ◌∷◌, ◌++◌, Float, IfSome, length, get_or, take, drop}
+use Rattle.std.specs.Prelude.{ℕ, suc, ◌+◌, ◌<◌, ◌≡◌, List, [], ◌∷◌, ◌++◌, Float, IfSome, length, get_or, take, drop}
 use Rattle.std.proofs.Common.{arith, add-one, drop-cons, ◌∙◌}
 use Rattle.std.proofs.lemmas.List.{take_more}
 use Rattle.keys.specs.Sorting.{sorted, count, Permutation}
@@ -17,10 +17,14 @@ pub with_centers_next : (m : Mesh) (b : BoundingBox) (items : List ℕ) (j : ℕ
 unfolding with_centers
 with_centers_next m b items j h = rw (add-one, drop-cons items j 0)
 
+-- from item j on: it may come before what is found among the rest
+pub first_zero_next : (e : ℕ → Float) (items : List ℕ) (j : ℕ) → j < length items → first_zero e (sorted (drop j items)) ≡ earlier (first_zero e (sorted (drop (j + 1) items))) (get_or items j 0) (e (get_or items j 0))
+first_zero_next e items j h = rw (add-one, drop-cons items j 0) (found_more e (get_or items j 0) (drop (suc j) items))
+
 -- the items as far as item j, and those before it: it may come before what is found among these
-pub first_zero_next : (e : ℕ → Float) (items : List ℕ) (j : ℕ) → j < length items → first_zero e (sorted (take (j + 1) items)) ≡ earlier (first_zero e (sorted (take j items))) (get_or items j 0) (e (get_or items j 0))
+pub first_zero_more : (e : ℕ → Float) (items : List ℕ) (j : ℕ) → j < length items → first_zero e (sorted (take (j + 1) items)) ≡ earlier (first_zero e (sorted (take j items))) (get_or items j 0) (e (get_or items j 0))
 unfolding count
-first_zero_next e items j h =
+first_zero_more e items j h =
     let t = get_or items j 0 in
     let before = take j items in
     let same : Permutation (before ++ t ∷ []) (t ∷ before) = λ k. count_append k before (t ∷ []) ∙ omega arith in

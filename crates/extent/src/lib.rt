@@ -15,7 +15,8 @@ use builder::{Pivot, Split};
 use math::{BoundingBox, Vec3};
 use mesh::{AcceptedMesh, Axis};
 
-// Which end of a box on an axis.
+// Which end of a box on an axis. An end and an axis are no struct: `joined_end` goes through the axes at one end and
+// `middle_rank` through the ends on one axis, so each would make one anew at every edge.
 #[derive(Clone, Copy)]
 enum End {
     Lower,
@@ -46,7 +47,7 @@ impl End {
         }
     }
 
-    // This edge of a box on an axis.
+    // This edge of a box on an axis. Not by `component`: that takes a number, as C does, and counts any above 1 as axis 2.
     #[tactic(auto, unfolding(crate::specs::Extent::edge, math::specs::Vectors::component))]
     fn edge(self, axis: Axis, b: BoundingBox) -> f64
         ensures { result ≡ Extents.edge (Extents.is_upper self) (Axes.place axis) b }
@@ -172,6 +173,7 @@ impl<'m, 'a, 'i> Node<'m, 'a, 'i> {
         for t in self.items {
             found = earlier(found, *t, end.edge(axis, self.mesh.own_box(*t)));
         }
+        // No `map_or`: its closure would need clauses of its own, longer than the two arms.
         match found {
             Some(t) => end.edge(axis, self.mesh.own_box(t)),
             None => 0.0,

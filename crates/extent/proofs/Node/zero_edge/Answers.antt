@@ -3,7 +3,7 @@ use lib.Seq.{take_all}
 use Rattle.keys.specs.Sorting.{sorted_by}
 use Rattle.mesh.specs.Axes.{place}
 use Rattle.extent.specs.Extent.{is_upper, own_edge, first_zero}
-use Rattle.extent.specs.ExtentLoops.{first_zero_next, found_item}
+use Rattle.extent.specs.ExtentLoops.{first_zero_more, found_item}
 use Rattle.extent.proofs.Node.zero_edge.Goals as goal
 
 pub loop-t-init : goal.loop-t-init
@@ -13,7 +13,7 @@ loop-t-init c = refl
 pub loop-t-preserved : goal.loop-t-preserved
 loop-t-preserved c =
     let a = c.args in
-    rw (c.earlier-found.ensures, c.edge.ensures, c.own_box.ensures, c.loop-t.invariant, first_zero_next (own_edge a.self.mesh.now (is_upper a.end) (place a.axis)) a.self.items.now c.loop-t.t-index c.loop-t-test.true)
+    rw (c.earlier-found.ensures, c.edge.ensures, c.own_box.ensures, c.loop-t.invariant, first_zero_more (own_edge a.self.mesh.now (is_upper a.end) (place a.axis)) a.self.items.now c.loop-t.t-index c.loop-t-test.true)
 
 pub own_box-requires-in-Some : goal.own_box-requires-in-Some
 own_box-requires-in-Some c =
