@@ -1,5 +1,5 @@
-// The builder: document 01's questions 1 to 6, and then the tree of the builder rule (csx's bvh.rs). The
-// definitions are in crate builder, specs/Builder.antt (the rule), and in specs/Build.antt (the questions and the promise).
+// The builder: document 01's questions 1 to 6, and then the tree of the builder rule (csx's bvh.rs). The definitions
+// are in crate builder, specs/Builder.antt (the rule), and in specs/Build.antt (the questions and the promise).
 ghost use Rattle.std.specs.Prelude.{◌≡◌, ◌≤◌, length};
 ghost use Rattle.refusal.specs.Verdicts.{answered};
 ghost use Rattle.mesh.specs.Mesh as Meshes;
@@ -20,8 +20,8 @@ fn number_items(items: &mut [u32])
     }
 }
 
-// Questions 1 to 6: a mesh, and lists of these lengths for its tree. The accepted mesh, or the refusal.
-// The lengths are no struct: this is asked in one place, of three lists that C lends one by one.
+// Questions 1 to 6: a mesh, and lists of these lengths for its tree. The accepted mesh, or the refusal. The lengths are
+// no struct: this is asked in one place, of three lists that C lends one by one.
 #[tactic(auto, unfolding(crate::specs::Build::ask_build))]
 pub fn ask_build<'a>(
     mesh: &Mesh<'a>,
@@ -40,8 +40,9 @@ pub fn ask_build<'a>(
     }
 }
 
-// Builds the tree of a mesh, and says how many nodes it has: its boxes go to `boxes`, the start and count of each node to
-// `nodes` and the triangle numbers to `items`. The lists are no `Tree`, which is one that is read: these are written.
+// Builds the tree of a mesh, and says how many nodes it has: its boxes go to `boxes`, the start and count of each node
+// to `nodes` and the triangle numbers to `items`. The lists are no `Tree`, which is one that is read, and no struct of
+// their own: `build_node` is lent a part of `items` and the whole of the other two.
 pub fn build(
     mesh: &Mesh,
     boxes: &mut [f64],

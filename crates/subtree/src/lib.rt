@@ -28,9 +28,7 @@ fn put_box(boxes: &mut [f64], n: usize, b: BoundingBox)
     requires { 6 * n + 6 ≤ length boxes.old }
     ensures { boxes.new ≡ sets boxes.old (6 * n) (Builder.edges b) }
 {
-    boxes[6 * n..6 * n + 6].copy_from_slice(&[
-        b.min.x, b.min.y, b.min.z, b.max.x, b.max.y, b.max.z,
-    ]);
+    boxes[6 * n..6 * n + 6].copy_from_slice(&<[f64; 6]>::from(b));
 }
 
 // Writes the start and the count of node `n`. They are cut by `as`, with no `try_from`: the clause says that they fit,
@@ -61,8 +59,9 @@ fn build_leaf(
     Subtree { end: n + 1, bounds }
 }
 
-// Writes the subtree over the items, from node `n` and item place `i` on. The box of an inner node is made
-// of those of its halves. `boxes` and `nodes` are no struct: each clause speaks of either list alone, before and after.
+// Writes the subtree over the items, from node `n` and item place `i` on. The box of an inner node is made of those of
+// its halves. The three lists are no struct: each half is lent a part of `items` and the whole of the other two, so it
+// would be taken apart and made again at every call.
 pub fn build_node(
     mesh: &AcceptedMesh,
     boxes: &mut [f64],

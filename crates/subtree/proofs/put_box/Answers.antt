@@ -8,4 +8,4 @@ pub returns : goal.returns
 returns c =
     let at = 6 * c.args.n in
     let six : at + 6 - at ≡ 6 = omega arith in
-    rw (six, c.copy_from_slice.ensures.after) (sets_copied c.args.boxes.now at (edges c.args.b) c.requires)
+    rw (six, c.copy_from_slice.ensures.after, c.from.ensures) (sets_copied c.args.boxes.now at (edges c.args.b) c.requires)
