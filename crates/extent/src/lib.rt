@@ -47,7 +47,7 @@ impl End {
         }
     }
 
-    // This edge of a box on an axis. Not by `component`: that takes a number, as C does, and counts any above 1 as axis 2.
+    // This edge of a box on an axis. Not by `component`: it takes a number, as C passes it, and any above 1 as axis 2.
     #[tactic(auto, unfolding(crate::specs::Extent::edge, math::specs::Vectors::component))]
     fn edge(self, axis: Axis, b: BoundingBox) -> f64
         ensures { result ≡ Extents.edge (Extents.is_upper self) (Axes.place axis) b }

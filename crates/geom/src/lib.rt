@@ -95,8 +95,8 @@ pub fn dist_point_segment_2d(p: Point2, a: Point2, b: Point2) -> f64
     hypot(p.u - a.u - t * dx, p.v - a.v - t * dy)
 }
 
-// The distance from `p` to the segment from `a` to `b`. csx rounds in another order here than in a plane, so the two are
-// no cases of one function.
+// The distance from `p` to the segment from `a` to `b`. csx rounds in another order here than in a plane, so the two
+// are no cases of one function.
 #[tactic(auto, unfolding(crate::specs::Segments::dist_point_segment))]
 pub fn dist_point_segment(p: Vec3, a: Vec3, b: Vec3) -> f64
     ensures { result ≡ Segments.dist_point_segment p a b }

@@ -41,11 +41,12 @@ pub enum Axis {
     Z,
 }
 
-// A mesh that questions 1 to 5 let pass, and how its triangles are found quickly. It has the lists of `Mesh` as its own:
-// this crate, extent, points, probes and tree_check read them, and each of those places would be longer through a `Mesh`.
+// A mesh that questions 1 to 5 let pass, and how its triangles are found quickly. It has the lists of `Mesh` as its
+// own: this crate, extent, points, probes and tree_check read them, and each of those places would be longer through a
+// `Mesh`.
 //
-// That a number is one of a triangle of the mesh, or that all items are, stands in the contracts of the functions that take
-// them and in no type: C lends plain numbers, and a type for one would have to carry its mesh.
+// That a number is one of a triangle of the mesh, or that all items are, stands in the contracts of the functions that
+// take them and in no type: C lends plain numbers, and a type for one would have to carry its mesh.
 #[derive(Drop)]
 pub struct AcceptedMesh<'a> {
     pub coords: &'a [f64],

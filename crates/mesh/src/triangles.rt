@@ -121,8 +121,8 @@ fn place_of(corners: &[u32], ends: &[u32], sides: Sides, t: usize) -> (usize, us
     }
 }
 
-// Triangle `t` of a mesh whose faces are all wide. The lists are lent one by one: it is promised of wide faces alone, and
-// an `AcceptedMesh` asks for finite coordinates besides.
+// Triangle `t` of a mesh whose faces are all wide. The lists are lent one by one: it is promised of wide faces alone,
+// and an `AcceptedMesh` asks for finite coordinates besides.
 pub fn triangle(corners: &[u32], ends: &[u32], sides: Sides, t: usize) -> Triangle
     requires { Fanned corners.now ends.now × (sides ≡ Triangles.sides ends.now) × (t < length corners.now - 2 * length ends.now) }
     ensures { result ≡ get_or (Triangles.triangles corners.now ends.now) t (Triangles.triangle 0 0 0) }

@@ -56,8 +56,8 @@ fn probed(mesh: &Mesh, work: &mut [u64], out: &mut [f64]) -> Result<bool, Refusa
     Ok(edges::keys_closed(corners, mesh.ends, work))
 }
 
-// Writes the edge keys in ascending order to `work`, and to `out` the mesh's boxes and tolerance and as many triangles as
-// have room there. Returns 1 if the mesh is closed, 0 if it is open, or the refusal's code.
+// Writes the edge keys in ascending order to `work`, and to `out` the mesh's boxes and tolerance and as many triangles
+// as have room there. Returns 1 if the mesh is closed, 0 if it is open, or the refusal's code.
 #[unsafe(no_mangle)]
 pub extern "C" fn probe_mesh(
     coords: &[f64],

@@ -28,10 +28,10 @@ fn find_vertex(vertices: &[f64], p: Vec3) -> Option<usize>
     vertices.iter().position(|v| Vec3::from(*v) == p)
 }
 
-// The number of `p` among the first `count` vertices, behind which it is written unless one is the same. Here and below the
-// lists and how much of them is written are no struct: vertices have one list and faces two, so it would be two types, each
-// made in one place and taken apart there for `Counts`. Numbers are cut by `as`, with no `try_from`: the bounds of the counts
-// say that they fit, so no error could be told.
+// The number of `p` among the first `count` vertices, behind which it is written unless one is the same. Here and below
+// the lists and how much of them is written are no struct: vertices have one list and faces two, so it would be two
+// types, each made in one place and taken apart there for `Counts`. Numbers are cut by `as`, with no `try_from`: the
+// bounds of the counts say that they fit, so no error could be told.
 fn add_vertex(coords: &mut [f64], count: &mut usize, p: Vec3) -> u32
     requires count_in_bounds { 3 * count.old + 2 < length coords.old }
     requires count_bound { count.old < 65536 }
@@ -90,8 +90,8 @@ fn weld_all(triangles: &[f64], coords: &mut [f64], corners: &mut [u32], ends: &m
     counts
 }
 
-// Questions 1, 5 and 6, with the lengths of the buffers. They are no struct: it is asked in two places, of three lists that
-// C lends one by one.
+// Questions 1, 5 and 6, with the lengths of the buffers. They are no struct: it is asked in two places, of three lists
+// that C lends one by one.
 #[tactic(auto, using(crate::specs::Passed::whole_passed), unfolding(crate::specs::Questions::ask_triangles, crate::specs::Questions::whole_triangles, crate::specs::Questions::ask_corners, crate::specs::Questions::room))]
 pub fn ask_triangles(
     triangles: &[f64],
