@@ -98,6 +98,13 @@ pub triangle_count_accepted : (m : Mesh) → Accepted m.coords m.corners m.ends 
 unfolding triangle_count Triangles.triangles faces
 triangle_count_accepted m a = omega (arith, length_fans 0 m.corners m.ends a.lengths.fit a.wide)
 
+-- from place k on: the own box there is joined, and then the rest
+pub join_from_next : (m : Mesh) (t : Tree) (b : BoundingBox) (k end : ℕ) → k < end → join_from m t b k (end - k) ≡ join_from m t (join b (own_box m (item_at t k))) (k + 1) (end - (k + 1))
+unfolding join_from
+join_from_next m t b k end h =
+    let more : end - k ≡ suc (end - (k + 1)) = omega arith in
+    rw more
+
 -- the join of item places is that of the triangles there
 joined_from : (m : Mesh) (t : Tree) (b : BoundingBox) (i places : ℕ) → i + places ≤ length t.items → join_from m t b i places ≡ join_all m b (take places (drop i t.items))
 unfolding join_from join_all item_at

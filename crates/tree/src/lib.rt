@@ -19,14 +19,15 @@ pub struct Walked {
 }
 
 // A leaf's first item place and its number of items, or an inner node's right child and 0. No enum of the two: where a walk
-// has come to a leaf, it would have to match an inner node too.
+// has come to a leaf, it would have to match an inner node too. The child is a number, as in a tree that C has stored.
 #[derive(Clone, Copy)]
 pub struct Node {
     pub start: usize,
     pub count: usize,
 }
 
-// A lent tree, whatever numbers it has: six floats a node, two numbers a node, and the triangle numbers.
+// A lent tree, whatever numbers it has: six floats a node, two numbers a node, and the triangle numbers. Three lists, and
+// none of nodes, since C lends them so.
 #[derive(Drop)]
 pub struct Tree<'a> {
     pub boxes: &'a [f64],
