@@ -1,5 +1,5 @@
 // The votes of the three ray directions. The definitions are in specs/Scan.antt.
-ghost use Rattle.std.specs.Prelude.{◌≡◌, ◌<◌, Some};
+ghost use Rattle.std.specs.Prelude.{◌≡◌, ◌<◌};
 ghost use Rattle.scan.specs.Answers as Answers;
 ghost use Rattle.scan.specs.Scan as Scan;
 ghost use Rattle.scan.specs.ScanLaws as ScanLaws;
@@ -23,31 +23,31 @@ pub enum Answer {
 }
 
 // How many votes are odd, and how many even.
-#[derive(Clone, Copy)]
+#[derive(Clone, Copy, Default)]
 pub struct Votes {
     pub odd: usize,
     pub even: usize,
 }
 
-impl Parity {
-    // The parity with what is found at one more triangle, if that can be said.
-    #[tactic(auto, unfolding(crate::specs::ScanLaws::with_found))]
-    pub fn with(self, hit: RayHit) -> Option<Parity>
-        ensures { result ≡ ScanLaws.with_found (Some self) hit }
-    {
-        match hit {
-            RayHit::Miss => Some(self),
-            RayHit::Hit => match self {
-                Parity::Odd => Some(Parity::Even),
-                Parity::Even => Some(Parity::Odd),
-            },
-            RayHit::Degenerate => None,
-        }
+// The vote so far, with what is found at one more triangle.
+#[tactic(auto, unfolding(crate::specs::ScanLaws::with_found))]
+pub fn with_found(vote: Option<Parity>, hit: RayHit) -> Option<Parity>
+    ensures { result ≡ ScanLaws.with_found vote hit }
+{
+    let parity = vote?;
+    match hit {
+        RayHit::Miss => Some(parity),
+        RayHit::Hit => match parity {
+            Parity::Odd => Some(Parity::Even),
+            Parity::Even => Some(Parity::Odd),
+        },
+        RayHit::Degenerate => None,
     }
 }
 
 impl Answer {
-    // Its byte in a list of answers.
+    // Its byte in a list of answers, as document 01 numbers them: no `From`, since a conversion would not say that these
+    // numbers are meant.
     pub fn byte(self) -> u8
         ensures { result ≡ Answers.byte self }
     {
