@@ -1,5 +1,5 @@
 -- The directions of the rays, and what the ray walk takes for granted of a ray.
-use Rattle.std.specs.Prelude.{ℕ, ◌+◌, ◌*◌, ◌<◌, ◌≡◌, true, false, List, [], ◌∷◌, Float, length, get_or}
+use Rattle.std.specs.Prelude.{ℕ, ◌+◌, ◌*◌, ◌≤◌, ◌<◌, ◌≡◌, true, false, List, [], ◌∷◌, Float, length, get_or}
 use Rattle.std.specs.Float.{nan}
 use Rattle.math.specs.declared.Vec3.{Vec3}
 use Rattle.math.specs.Vectors.{vec, is_finite}
@@ -9,7 +9,7 @@ use Rattle.ray_walk.specs.declared.Heading.{Heading}
 use Rattle.ray_walk.specs.declared.Near.{Near}
 use Rattle.math.specs.Boxes.{is_empty}
 use Rattle.tree.specs.Tree.{box_at}
-use Rattle.ray_walk.specs.Planes.{near_places, Seen}
+use Rattle.ray_walk.specs.Planes.{near_places, places_within, Seen}
 
 -- direction k
 unfoldable pub direction : ℕ → Vec3
@@ -35,6 +35,10 @@ pub record Cast (origin direction inv : Vec3) (planes : Near) : Type 0 where
   pub factors : finite_non_zero inv ≡ true
   pub near : planes ≡ near_places inv
 
--- so the planes of a box that is not empty are seen by their places
+-- so the places lie in a node's six floats
+pub within : {origin direction inv : Vec3} {planes : Near} → Cast origin direction inv planes → (planes.x ≤ 3) × (planes.y ≤ 4) × (planes.z ≤ 5) × (2 ≤ planes.z)
+within cast = places_within _ cast.near
+
+-- and the planes of a box that is not empty are seen by their places
 pub seen : {boxes : List Float} {n : ℕ} {origin direction inv : Vec3} {planes : Near} → Cast origin direction inv planes → 6 * n + 5 < length boxes → is_empty (box_at boxes n) ≡ false → Seen boxes n origin inv planes
 seen cast there some = record { there = there; met = record { origin = cast.finite; direction = cast.factors; some = some }; near = cast.near }

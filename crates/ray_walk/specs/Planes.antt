@@ -57,19 +57,20 @@ near_place_within : (inverse : Float) (axis : ℕ) → (axis ≤ near_place inve
 unfolding near_place
 near_place_within inverse axis = by_test (lt zero inverse) (λ e. rw e (omega arith, omega arith)) (λ e. rw e (omega arith, omega arith))
 
-module _ {boxes : List Float} {n : ℕ} {o inv : Vec3} {near : Near} (s : Seen boxes n o inv near) where
-  abbrev b : BoundingBox
-  b = box_at boxes n
-
+module _ (inv : Vec3) {near : Near} (right : near ≡ near_places inv) where
   places : (near.x ≡ near_place inv.x 0) × (near.y ≡ near_place inv.y 1) × (near.z ≡ near_place inv.z 2)
   unfolding near_places
-  places = (ap (λ (near : Near). near.x) s.near, ap (λ (near : Near). near.y) s.near, ap (λ (near : Near). near.z) s.near)
+  places = (ap (λ (near : Near). near.x) right, ap (λ (near : Near). near.y) right, ap (λ (near : Near). near.z) right)
 
   -- the places lie in the node's six floats
   pub places_within : (near.x ≤ 3) × (near.y ≤ 4) × (near.z ≤ 5) × (2 ≤ near.z)
   places_within =
       let z = rw (sym places.2) at (near_place_within inv.z 2) in
       (rw places.0 (near_place_within inv.x 0).1, rw places.1 (near_place_within inv.y 1).1, z.1, z.0)
+
+module _ {boxes : List Float} {n : ℕ} {o inv : Vec3} {near : Near} (s : Seen boxes n o inv near) where
+  abbrev b : BoundingBox
+  b = box_at boxes n
 
   first : 6 * n + 0 ≡ 6 * n
   first = omega arith
@@ -83,9 +84,9 @@ module _ {boxes : List Float} {n : ℕ} {o inv : Vec3} {near : Near} (s : Seen b
       × (meets_at boxes (6 * n + near.z) o.z inv.z ≡ entry o.z inv.z b.min.z b.max.z)
   unfolding box_at at
   entries = (
-    rw (first, fourth) at (near_entry boxes (6 * n) 0 near.x o.x inv.x places.0),
-    near_entry boxes (6 * n) 1 near.y o.y inv.y places.1,
-    near_entry boxes (6 * n) 2 near.z o.z inv.z places.2,
+    rw (first, fourth) at (near_entry boxes (6 * n) 0 near.x o.x inv.x (places inv s.near).0),
+    near_entry boxes (6 * n) 1 near.y o.y inv.y (places inv s.near).1,
+    near_entry boxes (6 * n) 2 near.z o.z inv.z (places inv s.near).2,
   )
 
   -- and at the farther ones the exits, negated
@@ -94,7 +95,7 @@ module _ {boxes : List Float} {n : ℕ} {o inv : Vec3} {near : Near} (s : Seen b
       × (meets_at boxes (6 * n + (7 - near.z)) o.z (neg inv.z) ≡ minus_exit o.z inv.z b.min.z b.max.z)
   unfolding box_at at
   exits = (
-    rw (first, fourth) at (far_exit boxes (6 * n) 0 near.x o.x inv.x places.0),
-    far_exit boxes (6 * n) 1 near.y o.y inv.y places.1,
-    far_exit boxes (6 * n) 2 near.z o.z inv.z places.2,
+    rw (first, fourth) at (far_exit boxes (6 * n) 0 near.x o.x inv.x (places inv s.near).0),
+    far_exit boxes (6 * n) 1 near.y o.y inv.y (places inv s.near).1,
+    far_exit boxes (6 * n) 2 near.z o.z inv.z (places inv s.near).2,
   )

@@ -17,7 +17,7 @@ ghost use Rattle.walks.specs.Walks as Walks;
 use math::Vec3;
 use mesh::{AcceptedMesh, Axis};
 use rays::{RayHit, overlap, ray_hits_box, ray_triangle};
-use scan::votes::Parity;
+use scan::votes::{Parity, with_found};
 use std::marker::Model;
 use tree::AcceptedTree;
 use walks::leaves::{Leaves, NodeTest};
@@ -135,6 +135,7 @@ impl NodeTest for Ray {
     ghost passes = { λ ray b. Scan.ray_passes ray.direction ray.origin b };
 
     // `ray_hits_box`, with the planes read by their places.
+    #[tactic(auto, using(crate::specs::Casts::within))]
     fn passes(&self, boxes: &[f64], n: usize) -> bool {
         let o = self.origin;
         let inv = self.heading.inverse;
@@ -196,7 +197,7 @@ impl Ray {
         let n = self.keep_passing(mesh, items, &mut kept);
         let mut parity = given;
         for t in &kept[..n] {
-            parity = parity.with(self.found(mesh, *t))?;
+            parity = with_found(Some(parity), self.found(mesh, *t))?;
         }
         Some(parity)
     }

@@ -1,41 +1,10 @@
 -- `passes` of a ray meets its contract: what is met at the planes are the entries and exits of the slabs.
-use native.Mathlib.Omega.{arith}
 use mathlib.Core.Path.{sym, ap}
 use Rattle.scan.specs.Scan.{ray_passes}
 use Rattle.rays.specs.Slabs.{slab_hits, all_numbers, slab_same}
 use Rattle.ray_walk.specs.Casts.{Line, seen}
-use Rattle.ray_walk.specs.Planes.{places_within, entries, exits}
+use Rattle.ray_walk.specs.Planes.{entries, exits}
 use Rattle.ray_walk.proofs.RayNodeTest.passes.Goals as goal
-
-pub overflow_add-i : goal.overflow_add-i
-overflow_add-i c = omega (arith, places_within (seen c.self.invariant c.requires.there c.requires.some), c.requires.there)
-
-pub meets-requires : goal.meets-requires
-meets-requires c = omega (arith, places_within (seen c.self.invariant c.requires.there c.requires.some), c.requires.there)
-
-pub overflow_add-i-2 : goal.overflow_add-i-2
-overflow_add-i-2 c = omega (arith, places_within (seen c.self.invariant c.requires.there c.requires.some), c.requires.there)
-
-pub meets-requires-2 : goal.meets-requires-2
-meets-requires-2 c = omega (arith, places_within (seen c.self.invariant c.requires.there c.requires.some), c.requires.there)
-
-pub overflow_add-i-3 : goal.overflow_add-i-3
-overflow_add-i-3 c = omega (arith, places_within (seen c.self.invariant c.requires.there c.requires.some), c.requires.there)
-
-pub meets-requires-3 : goal.meets-requires-3
-meets-requires-3 c = omega (arith, places_within (seen c.self.invariant c.requires.there c.requires.some), c.requires.there)
-
-pub overflow_sub-near : goal.overflow_sub-near
-overflow_sub-near c = omega (arith, places_within (seen c.self.invariant c.requires.there c.requires.some), c.requires.there)
-
-pub overflow_sub-near-2 : goal.overflow_sub-near-2
-overflow_sub-near-2 c = omega (arith, places_within (seen c.self.invariant c.requires.there c.requires.some), c.requires.there)
-
-pub overflow_sub-near-3 : goal.overflow_sub-near-3
-overflow_sub-near-3 c = omega (arith, places_within (seen c.self.invariant c.requires.there c.requires.some), c.requires.there)
-
-pub meets-requires-6 : goal.meets-requires-6
-meets-requires-6 c = omega (arith, places_within (seen c.self.invariant c.requires.there c.requires.some), c.requires.there)
 
 pub overlap-requires : goal.overlap-requires
 overlap-requires c =
