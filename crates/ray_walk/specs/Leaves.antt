@@ -37,6 +37,10 @@ module _ {m : Mesh} {d o : Vec3} {items : List ℕ} {i : ℕ} where
   unfolding items_from
   kept_none list = record { few = omega arith; each = λ j h. absurd (omega arith); same = λ v. refl }
 
+  -- no more of them than items
+  pub kept_few : {places : ℕ} {list : List ℕ} {n : ℕ} → Kept m d o items i places list n → n ≤ places
+  kept_few k = k.few
+
   -- one more item, which counts if its own box passes
   pub kept_next : {places : ℕ} {list : List ℕ} {n : ℕ} → Kept m d o items i places list n → n < length list → (t : ℕ) → get_or items (i + places) 0 ≡ t → Item m t
       → (b : Bool) → ray_passes d o (own_box m t) ≡ b → Kept m d o items i (places + 1) (set list n t) (raised n b)

@@ -174,6 +174,7 @@ impl Ray {
 
     // Stores the items whose own boxes pass, and says how many they are. Each is stored before it is known whether it
     // counts, so that no branch depends on its test and the next one can be read meanwhile; a `filter` would branch.
+    #[tactic(auto, using(crate::specs::Leaves::kept_few))]
     fn keep_passing(&self, mesh: &AcceptedMesh, items: &[u32], kept: &mut [u32; 4]) -> usize
         requires items { Items.Items mesh.now items.now }
         requires few { length items.now ≤ 4 }

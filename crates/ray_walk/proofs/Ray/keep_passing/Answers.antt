@@ -8,15 +8,6 @@ use Rattle.ray_walk.proofs.Ray.keep_passing.Goals as goal
 pub loop-t-init : goal.loop-t-init
 loop-t-init c = (c.told-kept, kept_none _)
 
-pub offset_bounds-kept-n : goal.offset_bounds-kept-n
-offset_bounds-kept-n c = omega (arith, c.loop-t.invariant.1.few, c.requires.few)
-
-pub bounds-kept-n : goal.bounds-kept-n
-bounds-kept-n c = omega (arith, c.loop-t.invariant.1.few, c.requires.few)
-
-pub raised-n-requires : goal.raised-n-requires
-raised-n-requires c = omega (arith, c.loop-t.invariant.1.few, c.requires.few)
-
 pub loop-t-preserved : goal.loop-t-preserved
 loop-t-preserved c =
     let inv = c.loop-t.invariant in
