@@ -34,6 +34,7 @@ fn next_leaf<P: NodeTest>(
     let nodes = tree.nodes;
     let boxes = tree.boxes;
     let mut at = from;
+    // A `while`: the step is `advance`, and no element of a list comes with it.
     while at.height > 0 {
         let node = node_at(nodes, at.node);
         if node.count > 0 {
@@ -54,6 +55,8 @@ fn next_leaf<P: NodeTest>(
 pub struct Leaves<'t, 'a, P: NodeTest> {
     tree: &'t AcceptedTree<'a>,
     test: &'t P,
+    // No path is longer than 32 nodes. It is no list with a length: place 0 is there at every height, so that what comes
+    // next is read with no question whether anything is stored (`popped`).
     stack: [usize; 32],
     at: Place,
 }

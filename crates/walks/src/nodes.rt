@@ -5,6 +5,7 @@ ghost use Rattle.walks.specs.Stacks as Stacks;
 // Where a walk is: at the root of a subtree that is to be visited, with so many to come, this one included. The roots of
 // the others are on the walk's stack, the next one at place `height - 1`; place 0 has the number of nodes. It is no
 // struct with the stack: each step gives back a new place, and writes the stack only where the left child is entered.
+// `height` says how many subtrees are to come. At the end that is 0, a number like the others: no `Option` of a place.
 #[derive(Clone, Copy)]
 pub struct Place {
     pub node: usize,
@@ -16,7 +17,7 @@ pub fn raised(count: usize, more: bool) -> usize
     requires { count < 32 }
     ensures { result ≡ Stacks.raised count more }
 {
-    if more { count + 1 } else { count }
+    count + usize::from(more)
 }
 
 // The place after all that is below this one.
@@ -31,8 +32,9 @@ pub fn popped(stack: &[usize; 32], at: Place) -> Place
     }
 }
 
-// The place after an inner node: the left child, the right one, or what comes after both, as their boxes passed. Before the
-// left child is entered the right one is stored, whether it passed or not: a branch on that would often be predicted wrongly.
+// The place after an inner node: the left child, the right one, or what comes after both, as their boxes passed. Whether a
+// child passed stands beside it, since no `Option` of a child would do: before the left one is entered the right one is
+// stored, and that also where it did not pass.
 pub fn advance(
     stack: &mut [usize; 32],
     at: Place,
