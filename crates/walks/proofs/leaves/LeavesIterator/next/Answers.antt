@@ -1,13 +1,26 @@
 -- `next` of `Leaves` meets its contract: at a leaf, its items are what the walk comes to next.
-use Prim.Native.Nat.{◌+◌, ◌-◌}
+use Prim.Native.Nat.{◌+◌, ◌-◌, ◌≤◌}
 use native.Mathlib.Omega.{arith}
 use mathlib.Core.Path.{◌≡◌, refl, sym, ap, ◌∙◌}
-use Rattle.tree.specs.Tree.{start_of, count_of}
+use lib.ListN.{length}
+use Rattle.tree.specs.Tree.{tree, start_of, count_of}
 use Rattle.walks.specs.Walks.{Walk, Ready}
 use Rattle.walks.specs.WalkLaws.{progress}
 use Rattle.walks.specs.Stacks as Stacks
 use Rattle.walks.specs.Stacks.{pending_from}
+use Rattle.walks.proofs.leaves.LeavesIterator.next.Goals.{After-node_at-leaf}
+use Rattle.walks.proofs.leaves.LeavesIterator.next.Given.{Over}
 use Rattle.walks.proofs.leaves.LeavesIterator.next.Goals as goal
+
+-- what is known at a leaf
+module _ (g : Over) (c : After-node_at-leaf g) where
+  ready : Ready c.tree.inside.mesh (tree c.tree.inside.boxes.now c.tree.inside.nodes.now c.tree.inside.items.now)
+  ready = record { accepted = c.tree.invariant.0; rules = c.tree.invariant.1 }
+
+  -- its items are in the list
+  within : c.node_at-leaf.result.start + c.node_at-leaf.result.count ≤ length c.tree.inside.items.now
+  unfolding start_of count_of
+  within = omega (arith, c.node_at-leaf.ensures, Stacks.leaf_within ready (rw (← c.tree.view_is) at c.next_leaf-at.ensures) (omega arith))
 
 pub node_at-leaf-requires : goal.node_at-leaf-requires
 node_at-leaf-requires g c =
@@ -25,16 +38,10 @@ pub popped-self-inside-requires : goal.popped-self-inside-requires
 popped-self-inside-requires g c = (omega arith, (Stacks.here c.next_leaf-at.ensures.onward.walking (omega arith)).low)
 
 pub overflow_add-result : goal.overflow_add-result
-unfolding start_of count_of
-overflow_add-result g c =
-    let ready : Ready c.tree.inside.mesh _ = record { accepted = c.tree.invariant.0; rules = c.tree.invariant.1 } in
-    omega (arith, c.node_at-leaf.ensures, Stacks.leaf_within ready (rw (← c.tree.view_is) at c.next_leaf-at.ensures) (omega arith))
+overflow_add-result g c = omega (arith, within g (goal.at.overflow_add-result g c).After-node_at-leaf)
 
 pub slice_bounds-result-end : goal.slice_bounds-result-end
-unfolding start_of count_of
-slice_bounds-result-end g c =
-    let ready : Ready c.tree.inside.mesh _ = record { accepted = c.tree.invariant.0; rules = c.tree.invariant.1 } in
-    omega (arith, c.node_at-leaf.ensures, Stacks.leaf_within ready (rw (← c.tree.view_is) at c.next_leaf-at.ensures) (omega arith))
+slice_bounds-result-end g c = within g (goal.at.slice_bounds-result-end g c).After-node_at-leaf
 
 pub invariant_of-self-2 : goal.invariant_of-self-2
 invariant_of-self-2 g c = rw c.popped-self-inside.ensures (Stacks.here c.next_leaf-at.ensures.onward.walking (omega arith)).after
@@ -45,8 +52,8 @@ returns-clause-steps g c =
     let start = c.node_at-leaf.result.start in
     let count = c.node_at-leaf.result.count in
     let fewer : start + count - start ≡ count = omega arith in
-    let ready : Ready c.tree.inside.mesh _ = record { accepted = c.tree.invariant.0; rules = c.tree.invariant.1 } in
-    let found = rw c.node_at-leaf.ensures.0 at (Stacks.leaf_found ready (rw (← c.tree.view_is) at c.next_leaf-at.ensures) (omega arith) (start + count - start) (fewer ∙ c.node_at-leaf.ensures.1)) in
+    let leaf = (goal.at.returns-clause-steps g c).After-node_at-leaf in
+    let found = rw c.node_at-leaf.ensures.0 at (Stacks.leaf_found (ready g leaf) (rw (← c.tree.view_is) at c.next_leaf-at.ensures) (omega arith) (start + count - start) (fewer ∙ c.node_at-leaf.ensures.1)) in
     rw
     (← c.self.view_is, ← c.tree.view_is, c.popped-self-inside.ensures)
     (record { mesh = refl; leaf = rw c.node_at-leaf.ensures.0 found.coming; triangles = rw c.node_at-leaf.ensures.0 found.triangles; places = rw c.node_at-leaf.ensures.0 (found.some, found.few); end = tt })
