@@ -63,7 +63,7 @@ impl<'t, 'a> Prepared<'t, 'a> {
         ensures { result ≡ Scan.votes self.now p }
     {
         let tree = self.tree;
-        let mut votes = Votes { odd: 0, even: 0 };
+        let mut votes = Votes::default();
         for heading in &self.headings {
             if votes.ended() {
                 return votes;

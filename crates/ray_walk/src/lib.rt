@@ -172,8 +172,8 @@ impl Ray {
         ray_triangle(self.origin, self.heading.direction, mesh.corner_points(t))
     }
 
-    // Stores the items whose own boxes pass, and says how many they are. Each is stored before it is known whether it
-    // counts, so that no branch depends on its test and the next one can be read meanwhile; a `filter` would branch.
+    // Stores the items whose own boxes pass, and says how many they are. A list of fixed length and a count, since there is
+    // no heap. Each item is stored, and the count rises if its box passes, where a `filter` would branch on the test.
     #[tactic(auto, using(crate::specs::Leaves::kept_few))]
     fn keep_passing(&self, mesh: &AcceptedMesh, items: &[u32], kept: &mut [u32; 4]) -> usize
         requires items { Items.Items mesh.now items.now }

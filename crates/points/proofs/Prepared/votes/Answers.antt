@@ -1,6 +1,7 @@
 use Prim.Native.Nat.{◌<◌}
 use native.Mathlib.Omega.{arith}
 use mathlib.Core.Path.{◌≡◌, refl, sym, ◌∙◌}
+use Rattle.std.proofs.Common.{rules}
 use Rattle.scan.specs.Scan as Scan
 use Rattle.scan.specs.Scan.{vote, directions, votes_from}
 use Rattle.ray_walk.specs.Casts.{direction, heading}
@@ -10,7 +11,9 @@ use Rattle.points.proofs.Prepared.votes.Goals as goal
 
 pub loop-heading-init : goal.loop-heading-init
 unfolding Scan.votes
-loop-heading-init c = (omega arith, refl)
+loop-heading-init c =
+    let none : (c.default-votes.result.odd ≡ 0) × (c.default-votes.result.even ≡ 0) = search rules in
+    (omega (arith, none), rw (none.0, none.1))
 
 pub returns-then-ended : goal.returns-then-ended
 returns-then-ended c =
