@@ -23,6 +23,7 @@ pub fn csx_contains_list(
 ) -> u64
     ensures { Lists.Contains (Meshes.mesh coords.now corners.now ends.now) (Trees.tree boxes.now nodes.now items.now) points.now work.old answers.old result work.new answers.new }
 {
+    // C lends list by list. A function that makes the mesh or the tree of three lists would be no shorter to call.
     let mesh = Mesh {
         coords,
         corners,

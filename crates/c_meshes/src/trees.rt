@@ -18,6 +18,7 @@ pub fn csx_build_tree(
 ) -> u64
     ensures { Trees.Builds (Meshes.mesh coords.now corners.now ends.now) boxes.old nodes.old items.old result boxes.new nodes.new items.new }
 {
+    // C lends list by list: a function that makes a mesh of three lists would be no shorter to call.
     let mesh = Mesh {
         coords,
         corners,
@@ -39,6 +40,7 @@ pub fn csx_check_tree(
 ) -> u64
     ensures { Trees.Checks (Meshes.mesh coords.now corners.now ends.now) (LentTrees.tree boxes.now nodes.now items.now) work.old result work.new }
 {
+    // Mesh and tree by the lists' names, as above.
     let mesh = Mesh {
         coords,
         corners,
