@@ -50,7 +50,7 @@ impl Place for f64 {
         f64::to_bits(self)
     }
 
-    // No record has a NaN.
+    // No record has a NaN. It is known by its bits, before there is a float: `from_bits` asks that they are no NaN's.
     #[tactic(auto, using(std::proofs::lemmas::Float::not_nan_f64_bits))]
     fn of_word(word: u64) -> Option<f64> {
         if 0x7FF0_0000_0000_0000 < word % 0x8000_0000_0000_0000 {

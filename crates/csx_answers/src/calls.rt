@@ -3,7 +3,7 @@ use crate::buffers::{Buffers, Place};
 use crate::input::Unreadable;
 
 // The answer to a shape question: the form and the normal direction, the eight numbers of the shape and the point, and
-// the list.
+// the list. The forms are numbers in the records alone: an enum would be made of them by these twelve rows once more.
 fn shape(work: &[u64], coords: &[f64], list: &[f64]) -> Result<u64, Unreadable> {
     let &[form, normal] = work else {
         return Err(Unreadable);

@@ -7,7 +7,8 @@ use std::io::Read;
 #[derive(Clone, Copy)]
 pub struct Unreadable;
 
-// A NaN's pattern that stands for no number. No record has it.
+// A NaN's pattern that stands for no number. No record has it. It is refused as a whole number too, and not as a float
+// alone, so that the program ends at each input where it always did.
 const NO_NUMBER: u64 = 0xFFF8_0000_0000_0001;
 
 // The value of a digit.
@@ -35,8 +36,7 @@ pub fn number(text: &[u8; 17]) -> Result<u64, Unreadable> {
 
 // Reads until the buffer is full, the input ends or a read fails. Returns how many bytes were read. How many turns that
 // takes is not known before, since a read may give fewer bytes than it is asked for. It is not the program point-list's
-// `read_text`, which answers a failed read with an error: here that ends the records as the end of the input does, and
-// the two programs share no library.
+// `read_text`, which answers a failed read with an error: here that ends the records as the end of the input does.
 pub fn read_full(input: &mut impl Read, buffer: &mut [u8]) -> usize
     ensures { result ≤ length buffer.new }
 {
@@ -50,7 +50,7 @@ pub fn read_full(input: &mut impl Read, buffer: &mut [u8]) -> usize
     done
 }
 
-// The next word of the input.
+// The next word of the input. Not by `read_exact`, which reads on after an interrupted read: here that ends the records.
 pub fn read_word(input: &mut impl Read) -> Result<u64, Unreadable> {
     let mut text = [0u8; 17];
     if read_full(input, &mut text) < 17 {
