@@ -9,8 +9,9 @@ ghost use Rattle.answers.specs.Answers.{Small, Scratch};
 use mesh_questions::Mesh;
 use tree::Tree;
 
-// Builds the tree of a small accepted mesh in the lent lists, and writes the answer to each point. The three lists of the
-// tree are no struct: `build` takes them one by one to write them, and `Tree` the parts that it wrote, to read them.
+// Builds the tree of a small accepted mesh in the lent lists, and writes the answer to each point. The three lists of
+// the tree are no struct: `build` takes them one by one to write them, and `Tree` the parts that it wrote, to read
+// them.
 fn answer_over(
     mesh: &Mesh,
     boxes: &mut [f64],

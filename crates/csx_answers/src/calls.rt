@@ -36,8 +36,8 @@ fn root(coords: &[f64]) -> Result<u64, Unreadable> {
     Ok(c_shapes::csx_root(x).word())
 }
 
-// What the call of a kind returns, with each buffer as long as its list. The kinds are numbers in the records alone: this
-// is where they are read.
+// What the call of a kind returns, with each buffer as long as its list. The kinds are numbers in the records alone:
+// this is where they are read.
 pub fn call(kind: u64, buffers: &mut Buffers) -> Result<u64, Unreadable> {
     let coords = &mut *buffers.coords;
     let boxes = &mut *buffers.boxes;

@@ -50,7 +50,8 @@ pub fn read_full(input: &mut impl Read, buffer: &mut [u8]) -> usize
     done
 }
 
-// The next word of the input. Not by `read_exact`, which reads on after an interrupted read: here that ends the records.
+// The next word of the input. Not by `read_exact`, which reads on after an interrupted read: here that ends the
+// records.
 pub fn read_word(input: &mut impl Read) -> Result<u64, Unreadable> {
     let mut text = [0u8; 17];
     if read_full(input, &mut text) < 17 {

@@ -1,5 +1,5 @@
-// The answer to one point over an accepted tree. The definition is the plain scan's, `plain_scan` in crate scan: the tree
-// does not show in it.
+// The answer to one point over an accepted tree. The definition is the plain scan's, `plain_scan` in crate scan: the
+// tree does not show in it.
 #![tactic(auto)]
 
 ghost use Rattle.std.specs.Prelude.{◌≡◌, ◌≤◌, true, length};

@@ -1,4 +1,5 @@
-// The ray walk: the vote of a direction. The definitions are in crate scan, specs/Scan.antt, and crate walks, specs/Walks.antt.
+// The ray walk: the vote of a direction. The definitions are in crate scan, specs/Scan.antt, and crate walks,
+// specs/Walks.antt.
 #![tactic(auto)]
 
 ghost use Rattle.std.specs.Prelude.{◌≡◌, ◌+◌, ◌-◌, ◌*◌, ◌≤◌, ◌<◌, true, map, length, Some};
@@ -172,8 +173,9 @@ impl Ray {
         ray_triangle(self.origin, self.heading.direction, mesh.corner_points(t))
     }
 
-    // Stores the items whose own boxes pass, and says how many they are. A list of fixed length and a count, since there is
-    // no heap. Each item is stored, and the count rises if its box passes, where a `filter` would branch on the test.
+    // Stores the items whose own boxes pass, and says how many they are. A list of fixed length and a count, since
+    // there is no heap. Each item is stored, and the count rises if its box passes, where a `filter` would branch on
+    // the test.
     #[tactic(auto, using(crate::specs::Leaves::kept_few))]
     fn keep_passing(&self, mesh: &AcceptedMesh, items: &[u32], kept: &mut [u32; 4]) -> usize
         requires items { Items.Items mesh.now items.now }

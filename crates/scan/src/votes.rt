@@ -46,8 +46,8 @@ pub fn with_found(vote: Option<Parity>, hit: RayHit) -> Option<Parity>
 }
 
 impl Answer {
-    // Its byte in a list of answers, as document 01 numbers them. A method with a name, as `Axis::place` of crate `mesh`: a
-    // `From` would not say which numbers are meant.
+    // Its byte in a list of answers, as document 01 numbers them. A method with a name, as `Axis::place` of crate
+    // `mesh`: a `From` would not say which numbers are meant.
     pub fn byte(self) -> u8
         ensures { result ≡ Answers.byte self }
     {

@@ -1,5 +1,5 @@
-// A lent box tree: the tree rules, the test that computes them, and how a node and its box are read. The definitions are
-// in specs/.
+// A lent box tree: the tree rules, the test that computes them, and how a node and its box are read. The definitions
+// are in specs/.
 #![tactic(auto)]
 
 ghost use Rattle.std.specs.Prelude.{◌≡◌, ◌+◌, ◌*◌, ◌<◌, length, get_or};
@@ -9,8 +9,8 @@ use math::{BoundingBox, Vec3};
 use mesh::AcceptedMesh;
 use std::marker::Model;
 
-// What the walk over a subtree finds if the subtree keeps the rules: the node and the item place behind it, and the join
-// of the own boxes below it.
+// What the walk over a subtree finds if the subtree keeps the rules: the node and the item place behind it, and the
+// join of the own boxes below it.
 #[derive(Clone, Copy)]
 pub struct Walked {
     pub node: usize,
@@ -18,16 +18,17 @@ pub struct Walked {
     pub joined: BoundingBox,
 }
 
-// A leaf's first item place and its number of items, or an inner node's right child and 0. No enum of the two: where a walk
-// has come to a leaf, it would have to match an inner node too. The child is a number, as in a tree that C has stored.
+// A leaf's first item place and its number of items, or an inner node's right child and 0. No enum of the two: where a
+// walk has come to a leaf, it would have to match an inner node too. The child is a number, as in a tree that C has
+// stored.
 #[derive(Clone, Copy)]
 pub struct Node {
     pub start: usize,
     pub count: usize,
 }
 
-// A lent tree, whatever numbers it has: six floats a node, two numbers a node, and the triangle numbers. Three lists, and
-// none of nodes, since C lends them so.
+// A lent tree, whatever numbers it has: six floats a node, two numbers a node, and the triangle numbers. Three lists,
+// and none of nodes, since C lends them so.
 #[derive(Drop)]
 pub struct Tree<'a> {
     pub boxes: &'a [f64],

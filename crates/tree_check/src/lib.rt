@@ -128,8 +128,9 @@ fn lengths_fit(tree: &Tree) -> bool
     (tree.boxes.len() == 6 * n) & (tree.nodes.len() == 2 * n)
 }
 
-// Whether the tree keeps the rules. Work places are used for counting the items. That there is one for each corner stands
-// in a clause, here and in `edges` and `points`, and in no type: C lends the places beside the mesh, and question 6 asks it.
+// Whether the tree keeps the rules. Work places are used for counting the items. That there is one for each corner
+// stands in a clause, here and in `edges` and `points`, and in no type: C lends the places beside the mesh, and
+// question 6 asks it.
 fn keeps_rules(mesh: &AcceptedMesh, tree: &Tree, work: &mut [u64]) -> bool
     requires { length mesh.now.corners ≤ length work.old }
     ensures { Check.Keeps mesh.now tree.now work.old result work.new }

@@ -55,8 +55,8 @@ fn next_leaf<P: NodeTest>(
 pub struct Leaves<'t, 'a, P: NodeTest> {
     tree: &'t AcceptedTree<'a>,
     test: &'t P,
-    // No path is longer than 32 nodes. It is no list with a length: place 0 is there at every height, so that what comes
-    // next is read with no question whether anything is stored (`popped`).
+    // No path is longer than 32 nodes. It is no list with a length: place 0 is there at every height, so that what
+    // comes next is read with no question whether anything is stored (`popped`).
     stack: [usize; 32],
     at: Place,
 }

@@ -2,8 +2,8 @@
 ghost use Rattle.std.specs.Prelude.{◌≡◌, ◌<◌};
 ghost use Rattle.walks.specs.Stacks as Stacks;
 
-// Where a walk is: at the root of a subtree that is to be visited, with so many to come, this one included. The roots of
-// the others are on the walk's stack, the next one at place `height - 1`; place 0 has the number of nodes. It is no
+// Where a walk is: at the root of a subtree that is to be visited, with so many to come, this one included. The roots
+// of the others are on the walk's stack, the next one at place `height - 1`; place 0 has the number of nodes. It is no
 // struct with the stack: each step gives back a new place, and writes the stack only where the left child is entered.
 // `height` says how many subtrees are to come. At the end that is 0, a number like the others: no `Option` of a place.
 #[derive(Clone, Copy)]
@@ -32,9 +32,9 @@ pub fn popped(stack: &[usize; 32], at: Place) -> Place
     }
 }
 
-// The place after an inner node: the left child, the right one, or what comes after both, as their boxes passed. Whether a
-// child passed stands beside it, since no `Option` of a child would do: before the left one is entered the right one is
-// stored, and that also where it did not pass.
+// The place after an inner node: the left child, the right one, or what comes after both, as their boxes passed.
+// Whether a child passed stands beside it, since no `Option` of a child would do: before the left one is entered the
+// right one is stored, and that also where it did not pass.
 pub fn advance(
     stack: &mut [usize; 32],
     at: Place,

@@ -1,5 +1,5 @@
-// The engine as C calls it: the functions that include/zirwennach.h declares. Each calls the function of its name in the
-// libraries below, and promises what that promises. There are two of each name since no crate can stand on a static
+// The engine as C calls it: the functions that include/zirwennach.h declares. Each calls the function of its name in
+// the libraries below, and promises what that promises. There are two of each name since no crate can stand on a static
 // library, and the replay, the program `csx_answers`, calls those below.
 #![tactic(auto)]
 
