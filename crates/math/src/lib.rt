@@ -82,6 +82,7 @@ impl Vec3 {
         sqrt::root(self.norm_sq())
     }
 
+    // `min` and `max` stay two, as in crate float, and so do `lowest` and `highest` below.
     #[tactic(auto, unfolding(crate::specs::Vectors::min))]
     pub fn min(self, o: Vec3) -> Vec3
         ensures { result ≡ Vectors.min self o }
@@ -299,6 +300,7 @@ impl BoundingBox {
 impl From<BoundingBox> for [f64; 6] {
     ghost from_gives = { λ b r. r ≡ b.min.x ∷ b.min.y ∷ b.min.z ∷ b.max.x ∷ b.max.y ∷ b.max.z ∷ [] };
 
+    #[inline(always)]
     fn from(b: BoundingBox) -> [f64; 6] {
         [b.min.x, b.min.y, b.min.z, b.max.x, b.max.y, b.max.z]
     }

@@ -52,7 +52,7 @@ pub fn triangle_center(coords: &[f64], t: Triangle) -> Vec3
 }
 
 impl Axis {
-    // Its place among the three numbers of a point.
+    // Its place among the three numbers of a point. A method with a name: a `From` would not say which number is meant.
     pub fn place(self) -> usize
         ensures { result ≡ Axes.place self }
     {

@@ -50,7 +50,8 @@ fn start_of(ends: &[u32], f: usize) -> usize
 }
 
 // The face of triangle `t`, by halves: it lies between faces `lo` and `hi`. By hand: the test needs the face's number
-// beside where the face ends, and the library's `partition_point` gives the end alone.
+// beside where the face ends, and the library's `partition_point` gives the end alone. Half way by a sum, which fits:
+// there are at most 65,536 faces.
 fn search(ends: &[u32], t: usize) -> usize
     requires { (length ends.now ≤ 65536) × (t < 4294967296) × (t + 2 * length ends.now < Triangles.start_from 0 ends.now (length ends.now)) }
     ensures { Triangles.InFace ends.now t result }

@@ -66,6 +66,7 @@ pub extern "C" fn probe_mesh(
     work: &mut [u64],
     out: &mut [f64],
 ) -> u64 {
+    // Put together from three lists, as C lends it.
     let mesh = Mesh {
         coords,
         corners,

@@ -173,9 +173,8 @@ impl Ray {
         ray_triangle(self.origin, self.heading.direction, mesh.corner_points(t))
     }
 
-    // Stores the items whose own boxes pass, and says how many they are. A list of fixed length and a count, since
-    // there is no heap. Each item is stored, and the count rises if its box passes, where a `filter` would branch on
-    // the test.
+    // Stores the items whose own boxes pass, and says how many they are. Four places and a count: each item is stored,
+    // and counts if its box passes. To a list that has its length it would be added under an `if`, which is no plainer.
     #[tactic(auto, using(crate::specs::Leaves::kept_few))]
     fn keep_passing(&self, mesh: &AcceptedMesh, items: &[u32], kept: &mut [u32; 4]) -> usize
         requires items { Items.Items mesh.now items.now }

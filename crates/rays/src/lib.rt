@@ -47,7 +47,7 @@ fn minus_exit(o: f64, inv: f64, lo: f64, hi: f64) -> f64
 }
 
 // Whether the last of the entries x, y and z into slabs, from 0 on, is at most the first exit; the exits u, v and w
-// are negated. Six numbers and no arrays: a processor takes them in registers, and each caller has its own way to them.
+// are negated. Six numbers and no arrays: each caller would make the arrays for this one call.
 pub fn overlap(x: f64, y: f64, z: f64, u: f64, v: f64, w: f64) -> bool
     requires { Number x × Number y × Number u × Number v }
     ensures { result ≡ Slabs.overlap x y z u v w }

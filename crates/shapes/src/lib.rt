@@ -10,7 +10,7 @@ use math::Vec3;
 // A shape's numbers. The vertices of polygons, the points of curves and wires and the corners of
 // multi-boxes are in the list that is lent beside the shape. The other shapes take no list, and one
 // that is lent beside them is not read. It stands beside the shape, not in five of its kinds: C lends it
-// so, and question 11 asks it alike whatever the kind is.
+// so. A normal direction is a number too, as C passes it: above 2 it has no axis.
 #[derive(Clone, Copy)]
 pub enum Shape {
     // Between two opposite corners.

@@ -33,8 +33,8 @@ pub fn popped(stack: &[usize; 32], at: Place) -> Place
 }
 
 // The place after an inner node: the left child, the right one, or what comes after both, as their boxes passed.
-// Whether a child passed stands beside it, since no `Option` of a child would do: before the left one is entered the
-// right one is stored, and that also where it did not pass.
+// Whether a child passed stands beside it. An `Option` of the right one would not do: before the left one is entered
+// the right one is stored, and that also where it did not pass. The left one is lent as the right one is.
 pub fn advance(
     stack: &mut [usize; 32],
     at: Place,
