@@ -1,15 +1,16 @@
 -- What the builder measures does not depend on the order of a node's items: `node_box_any_order` and `split_axis_any_order`. An inner node's box
 -- follows from those of its halves, and the axis from the box around the centres: `joined_halves` and `centers_axis`.
-use Rattle.std.specs.Prelude.{ℕ, ◌+◌, ◌*◌, ◌≡◌, refl, Bool, true, false, cond, ◌||◌, List, [], ◌∷◌, ◌++◌, eqb, Float, get_or, take, drop}
+use Rattle.std.specs.Prelude.{ℕ, ◌+◌, ◌*◌, ◌≡◌, refl, Bool, true, false, cond, not, ◌||◌, List, [], ◌∷◌, ◌++◌, eqb, Float, get_or, take, drop}
 use Rattle.std.proofs.Common.{sym, ap, ◌∙◌, take-append-drop}
 use Rattle.std.proofs.Math.Path.{ap₂}
 use Rattle.std.proofs.Math.Dec.{T}
 use Rattle.std.specs.Float.{nan, inf, fin}
-use Rattle.std.specs.Float.Ieee.{binary64, fits, of_bits, lt, eq, ne}
+use Rattle.std.specs.Float.Ieee.{binary64, fits, of_bits, lt, le, eq, ne, is_nan}
 use Rattle.std.specs.Float.Ieee.Fits.{cond-fits, inf-fits}
 use Rattle.float.specs.Arithmetic.{zero, ◌⊖◌}
 use Rattle.float.specs.Rules as Rules
-use Rattle.float.specs.Order.{Number, finite_number, min_top, max_bottom}
+use Rattle.float.specs.Patterns.{ne_self}
+use Rattle.float.specs.Order.{Number, finite_number, le_not_lt, le_number_left, le_number_right, min_top, max_bottom}
 use Rattle.keys.specs.Sorting.{sorted}
 use Rattle.math.specs.declared.Vec3.{Vec3}
 use Rattle.math.specs.declared.BoundingBox.{BoundingBox}
@@ -24,6 +25,40 @@ use Rattle.tree.specs.JoinLaws.{NumberBox, own_box_numbers}
 use Rattle.extent.specs.Extent.{end_with, with_center, with_centers, wider_axis, widest_axis, edge, own_edge, pick, settled_edge, settled_box, joined_edge, joined_end, joined_box}
 use Rattle.extent.specs.ExtentZeros.{sub_same}
 use Rattle.extent.specs.ExtentFolds.{next, picked, least, Floats, least_alike, least_zero, least_settled, least_parts}
+
+-- ---- centres
+
+-- an edge is kept unless the centre lies beyond it or the edge is a NaN
+kept : (v c : Float) (beyond within : Bool) → (T within → Number v) → (Number v → within ≡ not beyond) → cond (beyond || ne v v) c v ≡ cond within v c
+kept v c beyond within some opposite = rw (ne_self v) (by_number (is_nan v) refl)
+  where
+    by_number : (b : Bool) → is_nan v ≡ b → cond (beyond || b) c v ≡ cond within v c
+    by_number true e = by_order beyond within (λ h. rw e at some h)
+      where
+        by_order : (p q : Bool) → (T q → ⊥) → cond (p || true) c v ≡ cond q v c
+        by_order p true h = absurd (h tt)
+        by_order true false h = refl
+        by_order false false h = refl
+    by_number false e =
+        let n : Number v = rw e tt in
+        rw (opposite n) (by_order beyond)
+      where
+        by_order : (p : Bool) → cond (p || false) c v ≡ cond (not p) v c
+        by_order true = refl
+        by_order false = refl
+
+-- beside a finite centre one comparison tells whether an edge is kept
+pub compared_once : (upper : Bool) (v c : Float) → end_with upper v c ≡ cond (Rules.is_finite c) (cond upper (cond (le c v) v c) (cond (le v c) v c)) v
+unfolding end_with pick Rules.is_finite Rules.min Rules.max
+compared_once upper v c = by_test upper (Rules.is_finite c) refl
+  where
+    number : Rules.is_finite c ≡ true → Number c
+    number e = finite_number c (rw e tt)
+
+    by_test : (upper b : Bool) → Rules.is_finite c ≡ b → cond b (cond upper (Rules.max v c) (Rules.min v c)) v ≡ cond b (cond upper (cond (le c v) v c) (cond (le v c) v c)) v
+    by_test upper false e = refl
+    by_test false true e = kept v c (lt c v) (le v c) (le_number_left v c) (λ n. le_not_lt v c n (number e))
+    by_test true true e = kept v c (lt v c) (le c v) (le_number_right c v) (λ n. le_not_lt c v (number e) n)
 
 -- ---- components
 

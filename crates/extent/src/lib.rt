@@ -35,15 +35,18 @@ impl End {
         }
     }
 
-    // This edge `v` of a box around centres, and one centre more; one that is not finite does not count.
-    #[tactic(auto, unfolding(crate::specs::Extent::end_with))]
+    // This edge `v` of a box around centres, and one centre more; one that is not finite does not count. Of a finite
+    // one a single comparison tells what `pick` does, whatever `v` is.
+    #[tactic(auto, using(crate::specs::ExtentLaws::compared_once))]
     fn with(self, v: f64, c: f64) -> f64
         ensures { result ≡ Extents.end_with (Extents.is_upper self) v c }
     {
-        if float::is_finite(c) {
-            self.pick(v, c)
-        } else {
-            v
+        if !float::is_finite(c) {
+            return v;
+        }
+        match self {
+            End::Lower => if v <= c { v } else { c },
+            End::Upper => if c <= v { v } else { c },
         }
     }
 
