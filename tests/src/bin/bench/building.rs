@@ -18,7 +18,7 @@ use crate::{best_of_each, best_times};
 /// How many rounds are run, of which the best counts.
 const ROUNDS: usize = 15;
 /// How many times as long as csx building may take.
-const TIMES: f64 = 2.0;
+const TIMES: f64 = 1.9;
 
 /// How many triangles the meshes have that could make a builder slow, and how many
 /// rounds they are built.
