@@ -4,7 +4,7 @@ use csx::Vec3;
 use csx::primitives::bvh::Bvh;
 use csx::primitives::polyhedron::{RAY_DIRS, RayHit, closest_on_triangle, ray_triangle};
 
-use super::answers::{self, compare_sort, large};
+use super::answers::{self, compare_sort};
 use super::by_csx::{bvh, walk};
 use super::expected::{POINTS, Passes, Prepared, RULE, Rule, csx_box, refusal};
 use super::inputs::SORTS;
@@ -115,11 +115,6 @@ fn a_right_engine_passes() {
     ] {
         assert!(!caught(part, right));
     }
-}
-
-#[test]
-fn a_right_engine_passes_large_meshes() {
-    assert!(!tests::fails(|report, plan| large(report, plan, right)));
 }
 
 #[test]
