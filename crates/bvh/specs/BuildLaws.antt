@@ -19,9 +19,9 @@ use Rattle.tree.specs.Numbers.{length_numbers, get_d_numbers}
 use Rattle.builder.specs.Builder.{BoxTree, tree_over, builder_tree, size, box_list, node_list, item_list, lists, layout}
 use Rattle.builder.specs.BuilderLaws.{length_tree_over, length_box_list, length_node_list}
 use Rattle.builder.specs.BuilderSize.{size_le, node_count_some, node_count_none}
-use Rattle.subtree.specs.declared.Subtree.{Subtree}
-use Rattle.subtree.specs.Subtree.{Room, Writes}
-use Rattle.subtree.specs.Leaf.{ordered_sorted}
+use Rattle.bvh.specs.declared.subtree.Subtree.{Subtree}
+use Rattle.bvh.specs.Subtree.{Room, Writes}
+use Rattle.bvh.specs.Leaf.{ordered_sorted}
 use Rattle.bvh.specs.Build.{room, ask_build, verdict, Builds}
 
 -- ---- the whole tree

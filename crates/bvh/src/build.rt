@@ -5,10 +5,10 @@ ghost use Rattle.refusal.specs.Verdicts.{answered};
 ghost use Rattle.mesh.specs.Mesh as Meshes;
 ghost use Rattle.bvh.specs.Build as Build;
 
+use crate::subtree::build_node;
 use mesh::AcceptedMesh;
 use mesh_questions::Mesh;
 use refusal::Refusal;
-use subtree::build_node;
 
 // Writes the numbers from 0 on. They are cut by `as`, with no `try_from`: the clause says that they fit.
 fn number_items(items: &mut [u32])

@@ -2,3 +2,6 @@
 #![tactic(auto)]
 
 pub mod build;
+pub mod extent;
+pub mod median;
+pub mod subtree;

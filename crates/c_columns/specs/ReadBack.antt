@@ -12,8 +12,8 @@ use Rattle.text.specs.declared.Kind.{Kind}
 use Rattle.text.specs.declared.Counts.{Counts}
 use Rattle.text.specs.Lines.{kind_of, none, lines_in, may_follow, counted, lines, judge}
 use Rattle.text.specs.LineLaws.{counted_next}
-use Rattle.listing.specs.Listing.{listing_length}
-use Rattle.listing.specs.ListingLaws.{length_listing}
+use Rattle.text.specs.Listing.{listing_length}
+use Rattle.text.specs.ListingLaws.{length_listing}
 use Rattle.column.specs.Column.{mesh_of, points_of, ask_column, column_verdict, column_listing, judged, verdict, column_answer}
 use Rattle.column.specs.CallLaws.{has, length_points_of}
 

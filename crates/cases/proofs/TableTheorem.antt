@@ -9,9 +9,9 @@ use Rattle.float.specs.TotalOrder.{order_key, key_of}
 use Rattle.math.specs.Vectors as Vectors
 use Rattle.geom.specs.Tolerance.{tol_of, tol, between, in_range, scale, scale_from}
 use Rattle.geom.specs.Polygons.{points2, in_polygon, point_in_polygon}
-use Rattle.basic.specs.Round.{inside_sphere, axial, in_cylinder, inside_cylinder}
-use Rattle.curve.specs.Polylines.{dist_from, polyline_dist, inside_wire}
-use Rattle.poly.specs.Planes.{plane_axes, inside_prism, inside_polygon}
+use Rattle.shapes.specs.Round.{inside_sphere, axial, in_cylinder, inside_cylinder}
+use Rattle.shapes.specs.Polylines.{dist_from, polyline_dist, inside_wire}
+use Rattle.shapes.specs.Planes.{plane_axes, inside_prism, inside_polygon}
 use Rattle.shapes.specs.Shapes.{inside}
 use Rattle.primitives.specs.Questions.{shape_answer, whole, whole_entries, finite_numbers, finite_point, all_finite}
 use Rattle.keys.specs.Sorting.{count, sorted_by, insert_by}

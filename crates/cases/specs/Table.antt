@@ -7,7 +7,7 @@ use Rattle.sqrt.specs.Root.{root}
 use Rattle.math.specs.declared.Vec3.{Vec3}
 use Rattle.math.specs.Vectors.{vec}
 use Rattle.geom.specs.Tolerance.{in_range}
-use Rattle.poly.specs.Planes.{plane_axes}
+use Rattle.shapes.specs.Planes.{plane_axes}
 use Rattle.shapes.specs.declared.Shape.{Shape}
 use Rattle.shapes.specs.declared.Shape.TheVariants.{Sphere, Cylinder, Polygon, Wire}
 use Rattle.primitives.specs.Questions.{shape_answer, value}

@@ -13,16 +13,16 @@ use Rattle.mesh.specs.Mesh.{Mesh}
 use Rattle.mesh_questions.specs.Questions.{ask_mesh, ask_finite}
 use Rattle.polyhedron.specs.Lists.{list_fits, ask_points, ask_list, answers_to}
 use Rattle.polyhedron.specs.ListLaws.{length_answers_to}
-use Rattle.fields.specs.declared.Number.{Number}
+use Rattle.text.specs.declared.fields.Number.{Number}
 use Rattle.text.specs.declared.Kind.{Kind}
 use Rattle.text.specs.declared.Kind.TheVariants as Kinds
 use Rattle.text.specs.declared.Counts.{Counts}
 use Rattle.text.specs.Lines.{is_count, is_corner, is_of, all_three, numbers_fit, kind_of, lines_in, lines}
 use Rattle.text.specs.LineLaws.{line_at, length_lines, lines_take, lines_drop, section_line}
 use Rattle.text.specs.Accepted.{Accepted, accepted, good_line}
-use Rattle.listing.specs.Listing.{listing_text, listing_length}
-use Rattle.listing.specs.ListingLaws.{length_listing}
-use Rattle.answers.specs.Answers.{Few}
+use Rattle.text.specs.Listing.{listing_text, listing_length}
+use Rattle.text.specs.ListingLaws.{length_listing}
+use Rattle.column.specs.Answers.{Few}
 use Rattle.column.specs.Column.{mesh_of, points_of, ask_column, column_verdict, column_listing, judged, verdict, column_answer, Lists}
 use Rattle.column.specs.Sections.{ListsAnswers}
 use Rattle.numbers.specs.Numbers.{float_of, corner_of, numbers_of, ends_from, Whole}

@@ -7,7 +7,7 @@ use Rattle.refusal.specs.Verdicts.{Verdict, ask, then, answered, written}
 use Rattle.text.specs.declared.Counts.{Counts}
 use Rattle.text.specs.Lines.{none, lines, judge}
 use Rattle.numbers.specs.Numbers.{float_of, corner_of, numbers_of, ends_from}
-use Rattle.listing.specs.Listing.{listing_text, listing_length}
+use Rattle.text.specs.Listing.{listing_text, listing_length}
 use Rattle.mesh.specs.Mesh.{Mesh, mesh}
 use Rattle.mesh_questions.specs.Questions.{ask_mesh}
 use Rattle.polyhedron.specs.Lists.{answers_to}

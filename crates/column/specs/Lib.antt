@@ -2,3 +2,5 @@
 pub mod Column
 pub mod Sections
 pub mod CallLaws
+pub mod Answers
+pub mod AnswerLaws

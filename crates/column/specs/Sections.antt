@@ -5,7 +5,7 @@ use Rattle.refusal.specs.declared.Refusal.{Refusal}
 use Rattle.refusal.specs.Verdicts.{answered, written}
 use Rattle.mesh.specs.Mesh.{Mesh}
 use Rattle.polyhedron.specs.Lists.{answers_to}
-use Rattle.listing.specs.Listing.{listing_text, listing_length}
+use Rattle.text.specs.Listing.{listing_text, listing_length}
 use Rattle.column.specs.Column.{ask_column}
 
 -- room for 512 vertices, triangles and points

@@ -1,8 +1,10 @@
 // The column call: column text to a listing of answers (document 01, Column text). The definitions are in specs/.
 #![tactic(auto)]
 
+pub mod answers;
+
 ghost use Rattle.std.specs.Prelude.{◌≡◌, Ok, length};
-ghost use Rattle.answers.specs.Answers.{Few};
+ghost use Rattle.column.specs.Answers.{Few};
 ghost use Rattle.column.specs.Column as Column;
 ghost use Rattle.column.specs.Sections as Sections;
 
@@ -26,7 +28,7 @@ fn list_answers(
         return Err(Refusal::Room);
     }
     answers::answer_points(mesh, points, answers);
-    listing::write_listing(answers, listing);
+    text::listing::write_listing(answers, listing);
     Ok(bytes)
 }
 

@@ -2,3 +2,4 @@
 pub mod Tolerance
 pub mod Segments
 pub mod Polygons
+pub mod Angles

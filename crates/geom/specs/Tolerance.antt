@@ -6,7 +6,7 @@ use Rattle.std.specs.Float.{nan, binary64}
 use Rattle.std.specs.Float.Ieee.{of_bits, le}
 use Rattle.float.specs.Arithmetic.{◌⊕◌, ◌⊖◌, ◌⊗◌, zero}
 use Rattle.float.specs.Rules.{max, abs}
-use Rattle.coords.specs.Angles.{angle_in_range}
+use Rattle.geom.specs.Angles.{angle_in_range}
 
 -- 1e-12, the relative tolerance
 abbrev pub rel_tol : Float

@@ -2,6 +2,8 @@
 // from segments, and the even-odd test of a polygon. The definitions are in specs/.
 #![tactic(auto)]
 
+pub mod coords;
+
 ghost use Rattle.std.specs.Prelude.{◌≡◌};
 ghost use Rattle.geom.specs.Tolerance as Tolerance;
 ghost use Rattle.geom.specs.Segments as Segments;

@@ -16,8 +16,8 @@ use Rattle.refusal.specs.declared.Refusal.{Refusal}
 use Rattle.mesh_questions.specs.Questions.{ask_finite}
 use Rattle.lent.specs.ReorderedLaws.{Every, every_at}
 use Rattle.lent.specs.Over.{over, over_behind, over_part, over_three, over_next, length_over}
-use Rattle.fields.specs.declared.Number.{Number}
-use Rattle.fields.specs.Fields.{number}
+use Rattle.text.specs.declared.fields.Number.{Number}
+use Rattle.text.specs.Fields.{number}
 use Rattle.text.specs.Lines.{number_at, lines_of, lines, is_count, all_three}
 use Rattle.text.specs.LineLaws.{line_at, lines_next, length_lines, lines_get}
 use Rattle.text.specs.Accepted.{three}

@@ -2,7 +2,7 @@
 use Rattle.std.specs.Prelude.{ℕ, zero, suc, ◌+◌, ◌*◌, ◌/◌, ◌≤◌, ◌<◌, ◌≡◌, Bool, true, cond, Option, Some, None, List, [], ◌∷◌, pos, Float, length}
 use Rattle.std.specs.Float.{nan, binary64}
 use Rattle.std.specs.Float.Ieee.{neg, of_int}
-use Rattle.fields.specs.declared.Number.{Number}
+use Rattle.text.specs.declared.fields.Number.{Number}
 use Rattle.text.specs.Lines.{number_at, all_three}
 use Rattle.text.specs.LineLaws.{line_at}
 

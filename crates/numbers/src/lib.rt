@@ -4,11 +4,11 @@
 
 ghost use Rattle.std.specs.Prelude.{◌≡◌, Bool, true, ◌*◌, ◌/◌, ◌≤◌, Option, length};
 ghost use Rattle.lent.specs.Over.{over};
-ghost use Rattle.fields.specs.declared.Number.{Number};
+ghost use Rattle.text.specs.declared.fields.Number.{Number};
 ghost use Rattle.text.specs.Lines as Lines;
 ghost use Rattle.numbers.specs.Numbers as Numbers;
 
-use fields::Number;
+use text::fields::Number;
 use text::number_at;
 
 // What a number of a line becomes in the list that it is written into.

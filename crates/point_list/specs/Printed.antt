@@ -3,7 +3,7 @@ use Rattle.std.specs.Prelude.{ℕ, ◌≡◌, cond, List, [], leb, length, Ok, E
 use Rattle.refusal.specs.Verdicts.{Verdict}
 use Rattle.lent.specs.Over.{over}
 use Rattle.refusal.specs.Numbers.{number, place}
-use Rattle.listing.specs.Listing.{header}
+use Rattle.text.specs.Listing.{header}
 use Rattle.column.specs.Column.{verdict, column_answer}
 
 -- the listing unless a question refuses, else the refusal's header

@@ -16,7 +16,7 @@ pub fn listing_of(text: &[u8], listing: &mut [u8]) -> usize
     match column::point_list(text, listing) {
         Ok(bytes) => bytes,
         Err(refusal) => {
-            listing::write_header(refusal.number(), u64::from(refusal.place()), listing);
+            text::listing::write_header(refusal.number(), u64::from(refusal.place()), listing);
             10
         }
     }

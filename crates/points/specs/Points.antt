@@ -7,8 +7,8 @@ use Rattle.tree.specs.TreeRules.{AcceptedTree}
 use Rattle.edges.specs.Edges.{closed}
 use Rattle.scan.specs.Scan.{directions}
 use Rattle.walks.specs.Walks.{Ready}
-use Rattle.ray_walk.specs.declared.Heading.{Heading}
-use Rattle.ray_walk.specs.Casts.{heading}
+use Rattle.walks.specs.declared.ray.Heading.{Heading}
+use Rattle.walks.specs.Casts.{heading}
 
 -- what is worked out of an accepted tree is right: the bounds of its mesh, whether that is closed, and the headings of the three directions
 pub record Right (t : AcceptedTree) (given : Bounds) (said : Bool) (rows : List Heading) : Type 0 where

@@ -15,12 +15,12 @@ use Rattle.math.specs.Vectors.{vec}
 use Rattle.geom.specs.Tolerance.{rel_tol, least_magnitude, tol_of}
 use Rattle.mesh.specs.Mesh.{Mesh}
 use Rattle.mesh.specs.Boxes.{surface_eps, prepare}
-use Rattle.rays.specs.BoxLaws.{finite_non_zero}
+use Rattle.scan.specs.BoxLaws.{finite_non_zero}
 use Rattle.scan.specs.declared.votes.Parity.TheVariants.{Odd, Even}
 use Rattle.scan.specs.declared.votes.Votes.{Votes}
 use Rattle.scan.specs.Scan.{Vote, inverse, directions, counted, ended, votes_from}
-use Rattle.ray_walk.specs.declared.Heading.{Heading}
-use Rattle.ray_walk.specs.Casts.{direction, heading}
+use Rattle.walks.specs.declared.ray.Heading.{Heading}
+use Rattle.walks.specs.Casts.{direction, heading}
 
 -- ---- the directions
 

@@ -13,11 +13,11 @@ ghost use Rattle.scan.specs.Scan as Scan;
 
 use math::Vec3;
 use mesh::boxes::Bounds;
-use ray_walk::{Heading, Ray, headings, ray_walk};
 use scan::votes::{Answer, Votes};
 use std::marker::Model;
-use surface_walk::{Touch, surface_walk};
 use tree::AcceptedTree;
+use walks::ray::{Heading, Ray, headings, ray_walk};
+use walks::surface::{Touch, surface_walk};
 
 // An accepted tree, and what is worked out once for a list of points. To a caller it is the mesh.
 #[derive(Drop)]

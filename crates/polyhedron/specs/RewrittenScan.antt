@@ -24,10 +24,10 @@ use Rattle.mesh.specs.PermutedBoxes.{F64, F64Vec, AllF64, mesh_box_reordered, su
 use Rattle.edges.specs.Edges.{closed}
 use Rattle.edges.specs.EdgeLaws.{flatten_faces}
 use Rattle.edges.specs.ClosedLaws.{closed_reordered, closed_renumbered}
-use Rattle.closest.specs.Closest.{closest_on_triangle}
-use Rattle.rays.specs.declared.RayHit.{RayHit}
-use Rattle.rays.specs.declared.RayHit.TheVariants.{Miss}
-use Rattle.rays.specs.Rays.{ray_triangle}
+use Rattle.scan.specs.Closest.{closest_on_triangle}
+use Rattle.scan.specs.declared.rays.RayHit.{RayHit}
+use Rattle.scan.specs.declared.rays.RayHit.TheVariants.{Miss}
+use Rattle.scan.specs.Rays.{ray_triangle}
 use Rattle.scan.specs.declared.votes.Parity.TheVariants.{Odd, Even}
 use Rattle.scan.specs.Scan.{Vote, which, some, surface_passes, within, touches, touching, ray_passes, crossing, found, is_hit, is_degenerate, vote_over, vote, votes, plain_scan}
 use Rattle.scan.specs.ScanLaws.{which_nothing, length_which}

@@ -6,7 +6,7 @@ ghost use Rattle.std.specs.Prelude.{◌≡◌};
 ghost use Rattle.refusal.specs.Numbers as Numbers;
 ghost use Rattle.refusal.specs.Verdicts as Verdicts;
 
-// It has no Display: its text is the header of a listing, two fields of fixed widths, which crate `listing` writes.
+// It has no Display: its text is the header of a listing, two fields of fixed widths, which `text::listing` writes.
 #[derive(Clone, Copy, Debug)]
 pub enum Refusal {
     // The coordinate list is no whole number of vertices, or has too many.

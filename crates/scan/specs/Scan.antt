@@ -12,10 +12,10 @@ use Rattle.mesh_questions.specs.Faces.{faces}
 use Rattle.mesh.specs.Boxes.{vertex, prepare}
 use Rattle.mesh.specs.Mesh.{Mesh, triangle_at, own_box, all_triangles}
 use Rattle.edges.specs.Edges.{closed}
-use Rattle.closest.specs.Closest.{closest_on_triangle}
-use Rattle.rays.specs.declared.RayHit.{RayHit}
-use Rattle.rays.specs.declared.RayHit.TheVariants.{Miss, Hit, Degenerate}
-use Rattle.rays.specs.Rays.{ray_hits_box, ray_triangle}
+use Rattle.scan.specs.Closest.{closest_on_triangle}
+use Rattle.scan.specs.declared.rays.RayHit.{RayHit}
+use Rattle.scan.specs.declared.rays.RayHit.TheVariants.{Miss, Hit, Degenerate}
+use Rattle.scan.specs.Rays.{ray_hits_box, ray_triangle}
 use Rattle.scan.specs.declared.votes.Parity.{Parity}
 use Rattle.scan.specs.declared.votes.Parity.TheVariants.{Odd, Even}
 use Rattle.scan.specs.declared.votes.Votes.{Votes}

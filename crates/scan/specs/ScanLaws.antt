@@ -11,8 +11,8 @@ use borrow.Author.Tests.{eqb-true, eqb-false, eq-eqb, ne_eqb, lt-ltb}
 use Rattle.keys.specs.Sorting.{Permutation}
 use Rattle.keys.specs.SortingTheorems.{by_test}
 use Rattle.keys.specs.Permutations.{permuted_sum}
-use Rattle.rays.specs.declared.RayHit.{RayHit}
-use Rattle.rays.specs.declared.RayHit.TheVariants.{Miss, Hit, Degenerate}
+use Rattle.scan.specs.declared.rays.RayHit.{RayHit}
+use Rattle.scan.specs.declared.rays.RayHit.TheVariants.{Miss, Hit, Degenerate}
 use Rattle.scan.specs.declared.votes.Parity.TheVariants.{Odd, Even}
 use Rattle.scan.specs.Scan.{Vote, which, some, is_hit, is_degenerate, vote_over}
 

@@ -2,4 +2,6 @@
 // what every way to answer a point shares, the votes of the three ray directions.
 #![tactic(auto)]
 
+pub mod closest;
+pub mod rays;
 pub mod votes;

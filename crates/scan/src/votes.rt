@@ -4,7 +4,7 @@ ghost use Rattle.scan.specs.Answers as Answers;
 ghost use Rattle.scan.specs.Scan as Scan;
 ghost use Rattle.scan.specs.ScanLaws as ScanLaws;
 
-use rays::RayHit;
+use crate::rays::RayHit;
 
 // How many crossings a direction has. A direction without a parity has no vote: its ray passes an edge or a corner too
 // closely to say.

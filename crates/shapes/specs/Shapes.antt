@@ -1,10 +1,10 @@
 -- Which rule answers for which shape: csx's `Shape::contains_local` in Cartesian coordinates, and for a box in cylindrical ones its native test (mod.rs).
 -- Definitions only.
 use Rattle.std.specs.Prelude.{Bool, List, Float}
-use Rattle.basic.specs.Boxes.{inside_box, inside_cylindrical_box, inside_multi_box}
-use Rattle.basic.specs.Round.{inside_sphere, inside_spherical_shell, inside_cylinder, inside_cylindrical_shell}
-use Rattle.curve.specs.Polylines.{inside_curve, inside_wire, inside_point}
-use Rattle.poly.specs.Planes.{inside_polygon, inside_lin_poly}
+use Rattle.shapes.specs.Boxes.{inside_box, inside_cylindrical_box, inside_multi_box}
+use Rattle.shapes.specs.Round.{inside_sphere, inside_spherical_shell, inside_cylinder, inside_cylindrical_shell}
+use Rattle.shapes.specs.Polylines.{inside_curve, inside_wire, inside_point}
+use Rattle.shapes.specs.Planes.{inside_polygon, inside_lin_poly}
 use Rattle.math.specs.declared.Vec3.{Vec3}
 use Rattle.shapes.specs.declared.Shape.{Shape}
 use Rattle.shapes.specs.declared.Shape.TheVariants.{Box, CylindricalBox, MultiBox, Sphere, SphericalShell, Cylinder, CylindricalShell, Polygon, LinPoly, Curve, Wire, Point}

@@ -2,6 +2,10 @@
 // are in specs/Shapes.antt.
 #![tactic(auto)]
 
+pub mod basic;
+pub mod curve;
+pub mod poly;
+
 ghost use Rattle.std.specs.Prelude.{◌≡◌};
 ghost use Rattle.shapes.specs.Shapes as Shapes;
 

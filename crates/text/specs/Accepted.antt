@@ -3,11 +3,11 @@ use Prim.Native.Nat.{ℕ, zero, suc, ◌+◌, ◌*◌, ◌≤◌, ◌<◌}
 use Rattle.std.proofs.Common.{arith, sym, ◌∙◌, true≢false, length-drop, length-take, drop-drop, ltb-true, eqb-true}
 use Rattle.std.specs.Prelude.{◌≡◌, refl, Bool, true, false, cond, ◌&&◌, Option, Some, None, Result, Ok, Err, List, [], ◌∷◌, eqb, ltb, length, get_or, take, drop}
 use Rattle.refusal.specs.Verdicts.{both}
-use Rattle.fields.specs.declared.Number.{Number}
+use Rattle.text.specs.declared.fields.Number.{Number}
 use Rattle.text.specs.declared.Kind.{Kind}
 use Rattle.text.specs.declared.Kind.TheVariants as Kinds
 use Rattle.text.specs.declared.Counts.{Counts}
-use Rattle.fields.specs.Fields.{line_feed, field_of}
+use Rattle.text.specs.Fields.{line_feed, field_of}
 use Rattle.text.specs.Lines.{number_at, all_three, numbers_fit, kind_named, of_kind, kind_of, lines, none, lines_in, fits, may_follow, counted, judge}
 use Rattle.text.specs.LineLaws.{line_at, lines_nil, judge_next}
 

@@ -1,10 +1,10 @@
 -- Column text (document 01): which bytes are a good line of which kind, the first bad line by its number, and what an accepted text says. Definitions only.
 use Rattle.std.specs.Prelude.{ℕ, zero, suc, ◌+◌, ◌*◌, ◌/◌, Bool, false, not, cond, ◌&&◌, Option, Some, None, Result, Ok, Err, List, [], ◌∷◌, eqb, leb, ltb, length, get_or, take, drop}
-use Rattle.fields.specs.declared.Number.{Number}
+use Rattle.text.specs.declared.fields.Number.{Number}
 use Rattle.text.specs.declared.Kind.{Kind}
 use Rattle.text.specs.declared.Kind.TheVariants as Kinds
 use Rattle.text.specs.declared.Counts.{Counts}
-use Rattle.fields.specs.Fields.{line_feed, field_of}
+use Rattle.text.specs.Fields.{line_feed, field_of}
 
 -- ---- a line
 

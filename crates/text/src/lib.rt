@@ -2,10 +2,13 @@
 // specs/Lines.antt.
 #![tactic(auto)]
 
+pub mod fields;
+pub mod listing;
+
 ghost use Rattle.std.specs.Prelude.{◌≡◌, ◌+◌, ◌≤◌, ◌<◌, true, Some};
 ghost use Rattle.text.specs.Lines as Lines;
 
-use fields::{Number, read_field};
+use crate::fields::{Number, read_field};
 
 // What a good line is.
 #[derive(Clone, Copy)]

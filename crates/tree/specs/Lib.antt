@@ -5,3 +5,5 @@ pub mod TreeTest
 pub mod TreeTheorem
 pub mod Numbers
 pub mod JoinLaws
+pub mod Once
+pub mod Counting

@@ -3,7 +3,7 @@ use Rattle.std.specs.Prelude.{ℕ, zero, suc, ◌+◌, ◌≤◌, ◌<◌, ◌�
 use Rattle.std.proofs.Common.{arith, sym, ◌∙◌, ⊎_elim}
 use Rattle.keys.specs.Sorting.{count, Permutation}
 use Rattle.keys.specs.SortingTheorems.{le_or_lt, all_of, all_counted, count_cons}
-use Rattle.items.specs.Once.{once_below_lem}
+use Rattle.tree.specs.Once.{once_below_lem}
 use Rattle.mesh.specs.Mesh.{Mesh, triangle_count, numbers, all_triangles}
 use Rattle.tree.specs.Tree.{Tree, item_at}
 use Rattle.tree.specs.TreeRules.{TreeRules}

@@ -5,7 +5,7 @@ use Rattle.std.specs.Prelude.{Option, Some, None, Bool, false, cond, ◌&&◌, �
 use native.Mathlib.Omega.{arith}
 use Rattle.std.proofs.Common.{◌∙◌, add-one, drop-cons}
 use borrow.Author.Tests.{eq-eqb, ne_eqb, lt-ltb, le-ltb}
-use Rattle.items.specs.Counting.{once_below}
+use Rattle.tree.specs.Counting.{once_below}
 use Rattle.math.specs.declared.BoundingBox.{BoundingBox}
 use Rattle.mesh_questions.specs.Accepted.{Accepted}
 use Rattle.mesh.specs.Fans.{length_fans}

@@ -11,7 +11,7 @@ use Rattle.std.proofs.Math.Dec.{eqb, leb}
 use borrow.Author.Tests.{eqb-true, eqb-false, eq-eqb, ne_eqb, leb-true, le-leb, lt-ltb}
 use Rattle.refusal.specs.Verdicts.{both}
 use Rattle.keys.specs.Sorting.{count}
-use Rattle.items.specs.Counting.{once_below}
+use Rattle.tree.specs.Counting.{once_below}
 use Rattle.math.specs.declared.BoundingBox.{BoundingBox}
 use Rattle.mesh.specs.Mesh.{Mesh, triangle_count, own_box}
 use Rattle.math.specs.Boxes.{encloses, join}

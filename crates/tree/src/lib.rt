@@ -2,6 +2,8 @@
 // are in specs/.
 #![tactic(auto)]
 
+pub mod items;
+
 ghost use Rattle.std.specs.Prelude.{◌≡◌, ◌+◌, ◌*◌, ◌<◌, length, get_or};
 ghost use Rattle.tree.specs.Tree as Trees;
 

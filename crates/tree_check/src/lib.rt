@@ -8,12 +8,12 @@ ghost use Rattle.tree.specs.Tree as Trees;
 ghost use Rattle.tree.specs.TreeTest as TreeTest;
 ghost use Rattle.tree_check.specs.Check as Check;
 
-use items::items_once;
 use math::BoundingBox;
 use mesh::AcceptedMesh;
 use mesh_questions::Mesh;
 use refusal::Refusal;
 use std::marker::Model;
+use tree::items::items_once;
 use tree::{AcceptedTree, Tree, Walked, node_at, node_box};
 
 // An accepted mesh and a lent tree whose lists fit each other, and whose items are triangles of the mesh.

@@ -5,3 +5,6 @@ pub mod WalkTheorem
 pub mod ReadyLaws
 pub mod WalkScan
 pub mod Stacks
+pub mod Planes
+pub mod Casts
+pub mod Leaves

@@ -9,7 +9,7 @@ use borrow.Author.Tests.{eq-eqb, ne_eqb}
 use Rattle.keys.specs.SortingTheorems.{by_test}
 use Rattle.math.specs.declared.BoundingBox.{BoundingBox}
 use Rattle.tree.specs.Tree.{Tree, box_of, start_of, count_of}
-use Rattle.rays.specs.declared.RayHit.{RayHit}
+use Rattle.scan.specs.declared.rays.RayHit.{RayHit}
 use Rattle.scan.specs.Scan.{some, is_degenerate, vote_over}
 use Rattle.scan.specs.ScanLaws.{some_cons}
 use Rattle.walks.specs.Walks.{Visit, node, item, items_from, visits, up_to, reached, Walk, Gives}

@@ -12,9 +12,9 @@ use Rattle.math.specs.Boxes.{encloses}
 use Rattle.math.specs.Enclosing.{surface_passes_around}
 use Rattle.mesh.specs.Mesh.{Mesh, triangle_count, own_box, all_triangles}
 use Rattle.tree.specs.Tree.{Tree}
-use Rattle.rays.specs.declared.RayHit.{RayHit}
-use Rattle.rays.specs.declared.RayHit.TheVariants.{Miss}
-use Rattle.rays.specs.BoxLaws.{finite_non_zero, ray_passes_around}
+use Rattle.scan.specs.declared.rays.RayHit.{RayHit}
+use Rattle.scan.specs.declared.rays.RayHit.TheVariants.{Miss}
+use Rattle.scan.specs.BoxLaws.{finite_non_zero, ray_passes_around}
 use Rattle.scan.specs.Scan.{which, some, surface_passes, touches, touching, inverse, ray_passes, found, is_hit, is_degenerate, vote}
 use Rattle.scan.specs.ScanLaws.{vote_over_same}
 use Rattle.walks.specs.Walks.{all_visits, reached, surface_walk, ray_walk, walk_touches, walk_vote, Ready}

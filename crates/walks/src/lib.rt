@@ -1,6 +1,7 @@
-// A walk over the leaves of an accepted tree. The definitions of the two walks are in specs/Walks.antt; crates
-// `surface_walk` and `ray_walk` walk.
+// The two walks over the leaves of an accepted tree. Their definitions are in specs/Walks.antt.
 #![tactic(auto)]
 
 pub mod leaves;
 pub mod nodes;
+pub mod ray;
+pub mod surface;

@@ -5,7 +5,7 @@ use lib.ListN.{length}
 use Rattle.std.proofs.lemmas.Result.{err_from_is_err_and}
 use Rattle.mesh_questions.specs.Accepted.{asked_passed, asked_refused}
 use Rattle.polyhedron.specs.ListLaws.{length_answers_to, list_passed}
-use Rattle.listing.specs.Listing.{listing_length}
+use Rattle.text.specs.Listing.{listing_length}
 use Rattle.column.specs.CallLaws.{refused_mesh, refused_room, listed_answers}
 use Rattle.column.proofs.list_answers.Goals as goal
 

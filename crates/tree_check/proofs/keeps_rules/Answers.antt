@@ -10,8 +10,8 @@ use lib.ListN.{length, drop}
 use lib.Seq.{drop-drop}
 use borrow.Author.Tests.{eqb-true}
 use Rattle.refusal.specs.Verdicts.{both}
-use Rattle.items.specs.Once.{once_below_lem}
-use Rattle.items.specs.Counting.{once_below, CountsOnce}
+use Rattle.tree.specs.Once.{once_below_lem}
+use Rattle.tree.specs.Counting.{once_below, CountsOnce}
 use Rattle.mesh_questions.specs.Accepted.{Accepted}
 use Rattle.mesh.specs.Mesh.{Mesh, triangle_count}
 use Rattle.tree.specs.Tree.{Tree, node_count}

@@ -3,8 +3,8 @@ use Rattle.std.proofs.Common.{length, arith, sym, ◌∙◌}
 use borrow.Author.Tests.{le-leb, lt-leb}
 use Rattle.lent.specs.Over.{over_nothing}
 use Rattle.refusal.specs.Verdicts.{written}
-use Rattle.listing.specs.Listing.{header}
-use Rattle.listing.specs.ListingLaws.{length_line}
+use Rattle.text.specs.Listing.{header}
+use Rattle.text.specs.ListingLaws.{length_line}
 use Rattle.column.specs.Column.{column_answer}
 use Rattle.refusal.specs.Verdicts.{answered_ok, answered_err}
 use Rattle.point_list.specs.Printed.{answer_or, printed}

@@ -4,7 +4,7 @@ use mathlib.Core.Path.{◌≡◌, refl, sym, ◌∙◌}
 use Rattle.std.proofs.Common.{rules}
 use Rattle.scan.specs.Scan as Scan
 use Rattle.scan.specs.Scan.{vote, directions, votes_from}
-use Rattle.ray_walk.specs.Casts.{direction, heading}
+use Rattle.walks.specs.Casts.{direction, heading}
 use Rattle.walks.specs.WalkScan.{walk_vote_scan}
 use Rattle.points.specs.Votes.{heading_at, inverse_factors, votes_from_next, counted_sum}
 use Rattle.points.proofs.Prepared.votes.Goals as goal

@@ -1,7 +1,0 @@
--- Written out, so that a wrong `between_ends` is refused at once.
-use Rattle.basic.specs.Round.{between_ends}
-use Rattle.basic.proofs.between_ends.Goals as goal
-
-pub returns : goal.returns
-unfolding between_ends
-returns c = rw c.tol.ensures

@@ -1,3 +1,0 @@
--- The definitions of crate `basic`.
-pub mod Boxes
-pub mod Round

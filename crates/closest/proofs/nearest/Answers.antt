@@ -1,7 +1,0 @@
--- Written out, so that a wrong `nearest` is refused at once.
-use Rattle.closest.specs.Closest.{va, vb, vc, nearest}
-use Rattle.closest.proofs.nearest.Goals as goal
-
-pub returns-then-d-2 : goal.returns-then-d-2
-unfolding nearest va vb vc
-returns-then-d-2 c = rw (c.if-d.false, c.if-d-2.true)

@@ -1,2 +1,0 @@
--- The definitions of crate `closest`.
-pub mod Closest

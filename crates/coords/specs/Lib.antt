@@ -1,2 +1,0 @@
--- The definitions of crate `coords`.
-pub mod Angles

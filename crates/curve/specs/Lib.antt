@@ -1,2 +1,0 @@
--- The definitions of crate `curve`.
-pub mod Polylines

@@ -1,8 +1,0 @@
--- `Node::centers` meets its contract. The invariant: the box so far, with the centres of the items from the next on, is that of all.
-use Rattle.std.proofs.Common.{◌≡◌, drop}
-use Rattle.math.specs.Boxes.{empty}
-use Rattle.extent.specs.Extent.{with_centers}
-use Rattle.extent.proofs.Node.centers.Given as goal
-
-abbrev pub invariant-loop-t : goal.invariant-loop-t
-invariant-loop-t l = with_centers l.self.mesh.now l.b (drop l.t-index l.self.items.now) ≡ with_centers l.self.mesh.now empty l.self.items.now

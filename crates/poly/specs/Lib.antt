@@ -1,2 +1,0 @@
--- The definitions of crate `poly`.
-pub mod Planes
