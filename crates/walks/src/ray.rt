@@ -1,5 +1,4 @@
-// The ray walk: the vote of a direction. The definitions are in crate scan, specs/Scan.antt, and crate walks,
-// specs/Walks.antt.
+// The ray walk: the vote of a direction. The definitions are in specs/Walks.antt, and in crate scan, specs/Scan.antt.
 ghost use Rattle.std.specs.Prelude.{◌≡◌, ◌+◌, ◌-◌, ◌*◌, ◌≤◌, ◌<◌, true, map, length, Some};
 ghost use Rattle.math.specs.declared.BoundingBox.{BoundingBox};
 ghost use Rattle.math.specs.Vectors as Vectors;

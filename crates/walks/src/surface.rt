@@ -1,5 +1,5 @@
-// The surface walk: whether a point is near a triangle. The definitions are in crate scan, specs/Scan.antt, and crate
-// walks, specs/Walks.antt.
+// The surface walk: whether a point is near a triangle. The definitions are in specs/Walks.antt, and in crate scan,
+// specs/Scan.antt.
 ghost use Rattle.std.specs.Prelude.{◌≡◌};
 ghost use Rattle.mesh.specs.Items as Items;
 ghost use Rattle.scan.specs.Scan as Scan;
