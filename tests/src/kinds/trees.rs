@@ -18,6 +18,12 @@ use super::meshes::Mesh;
 use super::meshes::expected::Bounds;
 use crate::engine;
 
+/// How many numbers a node has in the list of node numbers, and where among them
+/// its start and its count stand.
+pub const STRIDE: usize = 2;
+pub(super) const START: usize = 0;
+pub(super) const COUNT: usize = 1;
+
 /// A tree, with its lists as they are lent.
 #[derive(Clone, Debug, Default, PartialEq)]
 pub struct Tree {
@@ -29,7 +35,7 @@ pub struct Tree {
 impl Tree {
     /// How many whole nodes there are.
     pub(super) fn node_count(&self) -> usize {
-        self.nodes.len() / 2
+        self.nodes.len() / STRIDE
     }
 
     /// The box of each node.

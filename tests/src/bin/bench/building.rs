@@ -7,8 +7,8 @@ use csx::{BoundingBox, Polyhedron};
 use zirwennach_tests::engine::trees;
 use zirwennach_tests::kinds::meshes::Mesh;
 use zirwennach_tests::kinds::meshes::inputs::Net;
-use zirwennach_tests::kinds::trees::Tree;
 use zirwennach_tests::kinds::trees::inputs::{ORDERS, line};
+use zirwennach_tests::kinds::trees::{STRIDE, Tree};
 use zirwennach_tests::random::Random;
 
 use crate::spheres::Sphere;
@@ -41,7 +41,7 @@ pub fn run(table: &mut Table, spheres: &[Sphere]) {
 fn room(triangles: usize) -> Tree {
     Tree {
         boxes: vec![0.0; 6 * triangles],
-        nodes: vec![0; 2 * triangles],
+        nodes: vec![0; STRIDE * triangles],
         items: vec![0; triangles],
     }
 }
@@ -70,7 +70,7 @@ impl Subject {
     /// Whether the starts and counts are those of csx.
     fn agrees(&self) -> bool {
         let numbers = self.csx.nodes.iter().flat_map(|n| [n.start, n.count]);
-        let built = &self.room.nodes[..2 * self.nodes as usize];
+        let built = &self.room.nodes[..STRIDE * self.nodes as usize];
         self.nodes == self.csx.nodes.len() as u64 && built.iter().copied().eq(numbers)
     }
 }

@@ -10,7 +10,7 @@ use crate::kinds::lists::refusals::Owned;
 use crate::kinds::meshes::expected::{CORNERS, FACES, VERTICES};
 use crate::kinds::meshes::inputs::pick;
 use crate::kinds::meshes::{LentMesh, Line, Mesh, Outcome, welding};
-use crate::kinds::trees::{LentTree, Tree, building, built, checking};
+use crate::kinds::trees::{LentTree, STRIDE, Tree, building, built, checking};
 use crate::random::Random;
 
 /// Of so many calls one has a list that is longer than any that is accepted, and a
@@ -54,7 +54,7 @@ fn too_many(mesh: &mut Mesh, random: &mut Random) {
 /// A tree of any bits, of which some have the lengths that a tree has.
 fn tree_of_bits(triangles: usize, random: &mut Random) -> Tree {
     let nodes = length(random);
-    let mut lengths = [6 * nodes, 2 * nodes, triangles];
+    let mut lengths = [6 * nodes, STRIDE * nodes, triangles];
     if random.flip() {
         lengths[pick(3, random)] = length(random);
     }

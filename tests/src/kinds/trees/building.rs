@@ -2,7 +2,7 @@
 //! in plain Rust and against csx.
 
 use super::expected::{Built, RULE, build, own_boxes};
-use super::{LentTree, Tree, inputs};
+use super::{LentTree, STRIDE, Tree, inputs};
 use crate::engine;
 use crate::kinds::lent::Lent;
 use crate::kinds::meshes::expected::{center, refusal};
@@ -31,7 +31,7 @@ impl Room {
     fn needed(triangles: usize) -> Self {
         Self {
             boxes: 6 * triangles,
-            nodes: 2 * triangles,
+            nodes: STRIDE * triangles,
             items: triangles,
         }
     }

@@ -3,7 +3,7 @@
 
 use super::damage::{DAMAGES, Damage};
 use super::expected::{RULE, TREE_RULES, build, keeps, own_boxes};
-use super::{LentTree, Tree, inputs, others};
+use super::{LentTree, STRIDE, Tree, inputs, others};
 use crate::engine::{self, REFUSAL};
 use crate::kinds::lent::Lent;
 use crate::kinds::meshes::expected::{Bounds, refusal};
@@ -139,7 +139,7 @@ fn every_list(length: u32, end: u32, ask: &mut impl FnMut(&[u32])) {
 fn wide_tree(nodes: Vec<u32>, items: Vec<u32>) -> Tree {
     let wide = [f64::NEG_INFINITY, f64::INFINITY].map(|edge| [edge; 3]);
     Tree {
-        boxes: vec![wide; nodes.len() / 2].as_flattened().concat(),
+        boxes: vec![wide; nodes.len() / STRIDE].as_flattened().concat(),
         nodes,
         items,
     }

@@ -1,7 +1,7 @@
 //! Damaged trees: sorts of damage, each of which mostly leaves a tree that
 //! breaks the tree rules, and some that does not.
 
-use super::Tree;
+use super::{COUNT, START, STRIDE, Tree};
 use crate::kinds::meshes::inputs::pick;
 use crate::random::{NOT_FINITE, Random, moved};
 
@@ -66,9 +66,10 @@ fn lengths(tree: &mut Tree, random: &mut Random) {
 fn starts(tree: &mut Tree, random: &mut Random) {
     let node = pick(tree.node_count(), random);
     let another = pick(tree.node_count(), random);
+    let place = STRIDE * node + START;
     match random.below(8) {
-        0 => tree.nodes.swap(2 * node, 2 * another),
-        _ => tree.nodes[2 * node] = other(tree, tree.nodes[2 * node], node as u32, random),
+        0 => tree.nodes.swap(place, STRIDE * another + START),
+        _ => tree.nodes[place] = other(tree, tree.nodes[place], node as u32, random),
     }
 }
 
@@ -77,13 +78,13 @@ fn starts(tree: &mut Tree, random: &mut Random) {
 fn counts(tree: &mut Tree, random: &mut Random) {
     let node = pick(tree.node_count(), random);
     let another = pick(tree.node_count(), random);
-    let place = 2 * node + 1;
-    let leaf = |node: usize| tree.nodes[2 * node + 1] > 0;
+    let place = STRIDE * node + COUNT;
+    let leaf = |node: usize| tree.nodes[STRIDE * node + COUNT] > 0;
     let next = (node + 1..tree.node_count()).find(|next| leaf(*next));
     match (random.below(8), next) {
-        (0, _) => tree.nodes.swap(place, 2 * another + 1),
+        (0, _) => tree.nodes.swap(place, STRIDE * another + COUNT),
         (1 | 2, Some(next)) if leaf(node) => {
-            let [start, count] = [2 * next, 2 * next + 1];
+            let [start, count] = [START, COUNT].map(|number| STRIDE * next + number);
             tree.nodes[place] = tree.nodes[place].wrapping_add(1);
             tree.nodes[start] = tree.nodes[start].wrapping_add(1);
             tree.nodes[count] = tree.nodes[count].wrapping_sub(1);
@@ -173,7 +174,7 @@ fn nodes(tree: &mut Tree, random: &mut Random) {
     let count = tree.node_count();
     let (a, b) = (pick(count, random), pick(count, random));
     let mut boxes = tree.boxes.as_chunks::<6>().0.to_vec();
-    let mut nodes = tree.nodes.as_chunks::<2>().0.to_vec();
+    let mut nodes = tree.nodes.as_chunks::<STRIDE>().0.to_vec();
     match random.below(6) {
         0 => {
             boxes.swap(a, b);
@@ -193,14 +194,14 @@ fn nodes(tree: &mut Tree, random: &mut Random) {
         }
         // the two subtrees of an inner node exchanged, boxes and all
         _ => {
-            let inner = |node: usize| nodes[node][1] == 0;
+            let inner = |node: usize| nodes[node][COUNT] == 0;
             if let Some(node) = (a..count).find(|node| inner(*node)) {
-                let (left, right) = (node + 1, nodes[node][0] as usize);
+                let (left, right) = (node + 1, nodes[node][START] as usize);
                 let end = end(&nodes, right);
                 boxes[left..end].rotate_left(right - left);
                 nodes[left..end].rotate_left(right - left);
                 if random.flip() {
-                    nodes[node][0] = (left + end - right) as u32;
+                    nodes[node][START] = (left + end - right) as u32;
                 }
             }
         }
@@ -210,7 +211,7 @@ fn nodes(tree: &mut Tree, random: &mut Random) {
 }
 
 /// The node behind the subtree at this one, in a tree that keeps the rules.
-fn end(nodes: &[[u32; 2]], node: usize) -> usize {
+fn end(nodes: &[[u32; STRIDE]], node: usize) -> usize {
     match nodes[node] {
         [right, 0] => end(nodes, right as usize),
         _ => node + 1,

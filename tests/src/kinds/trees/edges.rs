@@ -1,8 +1,8 @@
 //! Document 01's own cases on trees: the rows of its table 'Edges of the rules' on
 //! the nodes of small trees, and on the number of vertices as the builder asks it.
 
-use super::Tree;
 use super::building::{Build, csx_tree};
+use super::{STRIDE, Tree};
 use crate::kinds::meshes::edges::mesh;
 use crate::kinds::meshes::{Line, Mesh, Outcome};
 use crate::report::{Kind, Report};
@@ -37,7 +37,7 @@ fn answer(build: Build, mesh: &mut Mesh) -> Outcome {
     let triangles = mesh.triangle_count();
     let mut tree = Tree {
         boxes: vec![0.0; 6 * triangles],
-        nodes: vec![0; 2 * triangles],
+        nodes: vec![0; STRIDE * triangles],
         items: vec![0; triangles],
     };
     Outcome {

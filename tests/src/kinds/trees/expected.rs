@@ -5,7 +5,7 @@ use std::array::from_fn;
 use std::cmp::Ordering;
 use std::ops::{Range, RangeInclusive};
 
-use super::Tree;
+use super::{STRIDE, Tree};
 use crate::engine::Point;
 use crate::kinds::meshes::Mesh;
 use crate::kinds::meshes::expected::{Bounds, box_of, center, triangles};
@@ -123,7 +123,7 @@ impl Built {
             return;
         }
         let start = nodes.len();
-        nodes.extend([0, 0]);
+        nodes.extend([0; STRIDE]);
         let [left, right] = self.halves(rule, own, &triangles);
         self.add(rule, own, left);
         self.tree.nodes[start] = self.tree.node_count() as u32;
@@ -170,7 +170,7 @@ pub struct TreeRules {
 pub const TREE_RULES: TreeRules = TreeRules {
     lengths: |tree, triangles| {
         let count = tree.node_count();
-        tree.nodes.len() == 2 * count
+        tree.nodes.len() == STRIDE * count
             && tree.boxes.len() == 6 * count
             && tree.items.len() == triangles
             && (count == 0) == (triangles == 0)

@@ -3,8 +3,8 @@
 
 use std::ops::Range;
 
-use super::Tree;
 use super::expected::{RULE, TREE_RULES, TreeRules, below, build, join};
+use super::{STRIDE, Tree};
 use crate::kinds::meshes::expected::Bounds;
 use crate::kinds::meshes::inputs::{pick, shuffle};
 use crate::random::{Random, moved};
@@ -90,9 +90,9 @@ fn grow(
     let left = left.clamp(count.saturating_sub(most).max(1), most.min(count - 1));
     let middle = items.start + left;
     let start = nodes.len();
-    nodes.extend([0, 0]);
+    nodes.extend([0; STRIDE]);
     grow(nodes, items.start..middle, path + 1, (cut, split), random);
-    nodes[start] = nodes.len() as u32 / 2;
+    nodes[start] = (nodes.len() / STRIDE) as u32;
     grow(nodes, middle..items.end, path + 1, (cut, split), random);
 }
 
@@ -133,9 +133,9 @@ fn hang(nodes: &mut Vec<u32>, first: usize, leaves: &[usize], side: u64, random:
     let middle = if leaf_left { 1 } else { leaves.len() - 1 };
     let (left, right) = leaves.split_at(middle);
     let start = nodes.len();
-    nodes.extend([0, 0]);
+    nodes.extend([0; STRIDE]);
     hang(nodes, first, left, side, random);
-    nodes[start] = nodes.len() as u32 / 2;
+    nodes[start] = (nodes.len() / STRIDE) as u32;
     let first = first + left.iter().sum::<usize>();
     hang(nodes, first, right, side, random);
 }

@@ -2,11 +2,11 @@
 
 use std::array::from_fn;
 
-use super::Tree;
 use super::building::{Build, compare};
 use super::expected::{
     RULE, Rule, TREE_RULES, below, build, join, last_greatest, own_boxes, spread,
 };
+use super::{STRIDE, Tree};
 use crate::engine::Point;
 use crate::engine::meshes::Mesh as Lists;
 use crate::engine::trees::Tree as Lent;
@@ -22,7 +22,9 @@ fn fails(build: Build) -> bool {
 
 /// Whether there is room for so many nodes and triangles.
 fn has_room(tree: &Lent, nodes: usize, triangles: usize) -> bool {
-    tree.boxes.len() >= 6 * nodes && tree.nodes.len() >= 2 * nodes && tree.items.len() >= triangles
+    tree.boxes.len() >= 6 * nodes
+        && tree.nodes.len() >= STRIDE * nodes
+        && tree.items.len() >= triangles
 }
 
 fn write(built: &Tree, tree: &mut Lent) -> u64 {
@@ -227,7 +229,7 @@ fn wrong_answers_and_buffers_are_caught() {
     // written behind the nodes
     assert!(fails(|mesh, tree| {
         let answer = right(mesh, tree);
-        if let Some(next) = tree.nodes.get_mut(2 * answer as usize) {
+        if let Some(next) = tree.nodes.get_mut(STRIDE * answer as usize) {
             *next = 0;
         }
         answer

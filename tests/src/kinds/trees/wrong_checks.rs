@@ -1,11 +1,11 @@
 //! Checks with one fault each, which the comparison has to find.
 
-use super::Tree;
 use super::checking::{
     BROKEN, Check, damaged, every_small_tree, paths, refusals, trees_of_other_meshes,
     trees_of_the_mesh,
 };
 use super::expected::{TREE_RULES, TreeRules, encloses, keeps, own_boxes};
+use super::{STRIDE, Tree};
 use crate::engine::meshes::Mesh as Lists;
 use crate::engine::trees::Tree as Lent;
 use crate::kinds::meshes::expected::{Bounds, refusal};
@@ -110,7 +110,7 @@ fn wrong_lengths_are_caught() {
     }));
     assert!(damaged(|mesh, tree, work| {
         taken(mesh, tree, work, |tree, _| {
-            tree.nodes.truncate(2 * tree.node_count())
+            tree.nodes.truncate(STRIDE * tree.node_count())
         })
     }));
     assert!(damaged(|mesh, tree, work| {
