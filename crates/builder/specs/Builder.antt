@@ -8,10 +8,10 @@ use Rattle.keys.specs.Sorting.{sorted_by, sorted}
 use Rattle.math.specs.declared.Vec3.{Vec3}
 use Rattle.math.specs.declared.BoundingBox.{BoundingBox}
 use Rattle.math.specs.Vectors as Vectors
-use Rattle.mesh.specs.Boxes.{triangle_center}
+use Rattle.mesh.specs.MeshBoxes.{triangle_center}
 use Rattle.mesh.specs.Mesh.{Mesh, triangle_count, triangle_at, all_triangles}
 unfoldable pub use Rattle.mesh.specs.Mesh.{join_all, node_box}
-use Rattle.tree.specs.Tree.{Tree}
+use Rattle.tree.specs.Tree.{Tree, node_numbers}
 
 -- ---- the split
 
@@ -26,6 +26,10 @@ center_on m axis t = Vectors.component (center_of m t) axis
 -- its sort key there: total order, −0 before +0
 unfoldable pub center_key : Mesh → ℕ → ℕ → ℕ
 center_key m axis t = order_key (center_on m axis t)
+
+-- above every sort key: the largest u64, which is the key of a NaN alone
+abbrev pub top_rank : ℕ
+top_rank = 18446744073709551615
 
 -- the lowest of `lo` and the finite centres of a list, in the list's order
 unfoldable pub lowest : Mesh → ℕ → Float → List ℕ → Float
@@ -111,10 +115,10 @@ item_list (inner_node b left right) = item_list left ++ item_list right
 -- start and count of each node, of a tree whose root is node n and whose items begin at place i: a leaf's start is its first item place,
 -- an inner node's start is its right child and its count is 0
 unfoldable pub node_list : ℕ → ℕ → BoxTree → List ℕ
-node_list n i (leaf_node b items) = i ∷ length items ∷ []
+node_list n i (leaf_node b items) = node_numbers (record { start = i; count = length items })
 node_list n i (inner_node b left right) =
     let r = n + 1 + size left in
-    r ∷ 0 ∷ (node_list (n + 1) i left ++ node_list r (i + length (item_list left)) right)
+    node_numbers (record { start = r; count = 0 }) ++ (node_list (n + 1) i left ++ node_list r (i + length (item_list left)) right)
 
 -- the lent lists of a built tree
 unfoldable pub lists : BoxTree → Tree

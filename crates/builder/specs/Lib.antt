@@ -1,5 +1,3 @@
--- The builder rule, that the tree which it makes keeps the tree rules, and how many nodes it has.
+-- The definitions of crate `builder`: document 01's builder rule. Below laws their laws: the tree keeps the tree rules, and how many nodes it has.
 pub mod Builder
-pub mod BuilderLaws
-pub mod BuilderTheorem
-pub mod BuilderSize
+pub mod laws

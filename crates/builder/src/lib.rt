@@ -3,6 +3,7 @@
 #![tactic(auto)]
 
 ghost use Rattle.std.specs.Prelude.{◌<◌};
+ghost use Rattle.builder.specs.Builder as Builder;
 
 use mesh::Axis;
 
@@ -11,7 +12,7 @@ use mesh::Axis;
 #[derive(Clone, Copy)]
 pub struct Pivot {
     pub rank: u64,
-    pub ghost below_top: { rank < 18446744073709551615 },
+    pub ghost below_top: { rank < Builder.top_rank },
 }
 
 // The axis on which a node's items are split, and a rank near their middle on it (a guess: nothing else is

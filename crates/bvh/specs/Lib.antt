@@ -1,17 +1,4 @@
--- What the builder promises, what it measures of a node, its median split and its subtrees, and the laws that lead there.
+-- The definitions of crate `bvh`: what the builder promises. Below steps what its inner functions promise, below laws their laws.
 pub mod Build
-pub mod BuildLaws
-pub mod BuildTheorem
-pub mod Leaf
-pub mod Subtree
-pub mod SubtreeLaws
-pub mod Node
-pub mod Median
-pub mod MedianLaws
-pub mod MedianTheorem
-pub mod Extent
-pub mod ExtentZeros
-pub mod ExtentFirst
-pub mod ExtentFolds
-pub mod ExtentLoops
-pub mod ExtentLaws
+pub mod steps
+pub mod laws

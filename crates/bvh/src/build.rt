@@ -33,7 +33,7 @@ pub fn ask_build<'a>(
 {
     let mesh = AcceptedMesh::accept(mesh)?;
     let triangles = mesh.triangle_count();
-    if (6 * triangles <= boxes) & (2 * triangles <= nodes) & (triangles <= items) {
+    if (6 * triangles <= boxes) & (tree::STRIDE * triangles <= nodes) & (triangles <= items) {
         Ok(mesh)
     } else {
         Err(Refusal::Room)

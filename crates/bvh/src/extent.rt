@@ -1,13 +1,12 @@
 // What the builder measures of a node's items: the axis on which they are split, and the node's box. The
-// definitions are in specs/Extent.antt.
+// definitions are in specs/steps/Extent.antt.
 ghost use Rattle.std.specs.Prelude.{◌≡◌, ◌<◌, length, take, drop};
 ghost use Rattle.keys.specs.Sorting.{sorted};
-ghost use Rattle.math.specs.Boxes as Boxes;
-ghost use Rattle.mesh.specs.Axes as Axes;
-ghost use Rattle.mesh.specs.Items as Items;
+ghost use Rattle.math.specs.BoundingBoxes as BoundingBoxes;
+ghost use Rattle.mesh.specs.steps.Axes as Axes;
+ghost use Rattle.mesh.specs.steps.Items as Items;
 ghost use Rattle.builder.specs.Builder as Builder;
-ghost use Rattle.bvh.specs.Extent as Extents;
-ghost use Rattle.bvh.specs.ExtentLaws as ExtentLaws;
+ghost use Rattle.bvh.specs.steps.Extent as Extents;
 
 use builder::{Pivot, Split};
 use math::{BoundingBox, Vec3};
@@ -23,7 +22,7 @@ enum End {
 
 impl End {
     // The smaller of two at the lower end, the larger at the upper one.
-    #[tactic(auto, unfolding(crate::specs::Extent::pick))]
+    #[tactic(auto, unfolding(crate::specs::steps::Extent::pick))]
     fn pick(self, a: f64, b: f64) -> f64
         ensures { result ≡ Extents.pick (Extents.is_upper self) a b }
     {
@@ -35,7 +34,7 @@ impl End {
 
     // This edge `v` of a box around centres, and one centre more; one that is not finite does not count. Of a finite
     // one a single comparison tells what `pick` does, whatever `v` is.
-    #[tactic(auto, using(crate::specs::ExtentLaws::compared_once))]
+    #[tactic(auto, using(crate::specs::laws::ExtentLaws::compared_once))]
     fn with(self, v: f64, c: f64) -> f64
         ensures { result ≡ Extents.end_with (Extents.is_upper self) v c }
     {
@@ -49,7 +48,7 @@ impl End {
     }
 
     // This edge of a box on an axis. Not by `component`: it takes a number, as C passes it, and any above 1 as axis 2.
-    #[tactic(auto, unfolding(crate::specs::Extent::edge, math::specs::Vectors::component))]
+    #[tactic(auto, unfolding(crate::specs::steps::Extent::edge, math::specs::Vectors::component))]
     fn edge(self, axis: Axis, b: BoundingBox) -> f64
         ensures { result ≡ Extents.edge (Extents.is_upper self) (Axes.place axis) b }
     {
@@ -66,26 +65,26 @@ impl End {
 }
 
 // A box around centres, and one centre more.
-#[tactic(auto, unfolding(crate::specs::Extent::with_center))]
+#[tactic(auto, unfolding(crate::specs::steps::Extent::with_center))]
 fn with_center(b: BoundingBox, c: Vec3) -> BoundingBox
     ensures { result ≡ Extents.with_center b c }
 {
     BoundingBox {
-        min: Vec3 {
-            x: End::Lower.with(b.min.x, c.x),
-            y: End::Lower.with(b.min.y, c.y),
-            z: End::Lower.with(b.min.z, c.z),
-        },
-        max: Vec3 {
-            x: End::Upper.with(b.max.x, c.x),
-            y: End::Upper.with(b.max.y, c.y),
-            z: End::Upper.with(b.max.z, c.z),
-        },
+        min: Vec3::new(
+            End::Lower.with(b.min.x, c.x),
+            End::Lower.with(b.min.y, c.y),
+            End::Lower.with(b.min.z, c.z),
+        ),
+        max: Vec3::new(
+            End::Upper.with(b.max.x, c.x),
+            End::Upper.with(b.max.y, c.y),
+            End::Upper.with(b.max.z, c.z),
+        ),
     }
 }
 
 // The axis of greatest size, the last on a tie.
-#[tactic(auto, unfolding(crate::specs::Extent::widest_axis, crate::specs::Extent::wider_axis, math::specs::Vectors::component))]
+#[tactic(auto, unfolding(crate::specs::steps::Extent::widest_axis, crate::specs::steps::Extent::wider_axis, math::specs::Vectors::component))]
 fn widest_axis(size: Vec3) -> Axis
     ensures { Axes.place result ≡ Extents.widest_axis size }
 {
@@ -110,7 +109,7 @@ fn middle_rank(centers: BoundingBox, axis: Axis) -> Pivot {
 }
 
 // The lowest-numbered item so far whose edge is zero, or item `t` if its edge `e` is zero and it does not come later.
-#[tactic(auto, unfolding(crate::specs::Extent::earlier))]
+#[tactic(auto, unfolding(crate::specs::steps::Extent::earlier))]
 fn earlier(found: Option<u32>, t: u32, e: f64) -> Option<u32>
     ensures { result ≡ Extents.earlier found t e }
 {
@@ -122,17 +121,12 @@ fn earlier(found: Option<u32>, t: u32, e: f64) -> Option<u32>
 }
 
 // Whether two floats are equal as numbers and not the same: zeros of unlike sign.
-#[tactic(auto, unfolding(crate::specs::Extent::unlike))]
+#[tactic(auto, unfolding(crate::specs::steps::Extent::unlike))]
 fn unlike(a: f64, b: f64) -> bool
     ensures { result ≡ Extents.unlike a b }
 {
     (a == b) & (float::order_key(a) != float::order_key(b))
 }
-
-// The type of a lent list says that its floats are of the format f64; a mesh's fields are seen as lists without it.
-fn lent_floats(list: &[f64])
-    ensures { ExtentLaws.FitFloats list.now }
-{}
 
 // The items of a node, in whatever order they stand: triangles of the mesh.
 #[derive(Clone, Copy)]
@@ -145,7 +139,7 @@ pub struct Node<'m, 'a, 'i> {
 impl<'m, 'a, 'i> Node<'m, 'a, 'i> {
     // On each axis the lowest and the highest finite centre of the items.
     fn centers(self) -> BoundingBox
-        ensures { result ≡ Extents.with_centers self.entry.mesh.now Boxes.empty self.entry.items.now }
+        ensures { result ≡ Extents.with_centers self.entry.mesh.now BoundingBoxes.empty self.entry.items.now }
     {
         let mut b = BoundingBox::empty();
         for t in self.items {
@@ -183,7 +177,7 @@ impl<'m, 'a, 'i> Node<'m, 'a, 'i> {
 
     // An edge of the box of the items from those of their halves: only of zeros of unlike sign it depends on the
     // items.
-    #[tactic(auto, unfolding(crate::specs::Extent::joined_edge))]
+    #[tactic(auto, unfolding(crate::specs::steps::Extent::joined_edge))]
     fn joined_edge(self, end: End, axis: Axis, a: f64, b: f64) -> f64
         ensures { result ≡ Extents.joined_edge self.entry.mesh.now self.entry.items.now (Extents.is_upper end) (Axes.place axis) a b }
     {
@@ -194,15 +188,15 @@ impl<'m, 'a, 'i> Node<'m, 'a, 'i> {
     }
 
     // The three edges at this end.
-    #[tactic(auto, unfolding(crate::specs::Extent::joined_end))]
+    #[tactic(auto, unfolding(crate::specs::steps::Extent::joined_end))]
     fn joined_end(self, end: End, a: Vec3, b: Vec3) -> Vec3
         ensures { result ≡ Extents.joined_end self.entry.mesh.now self.entry.items.now (Extents.is_upper end) a b }
     {
-        Vec3 {
-            x: self.joined_edge(end, Axis::X, a.x, b.x),
-            y: self.joined_edge(end, Axis::Y, a.y, b.y),
-            z: self.joined_edge(end, Axis::Z, a.z, b.z),
-        }
+        Vec3::new(
+            self.joined_edge(end, Axis::X, a.x, b.x),
+            self.joined_edge(end, Axis::Y, a.y, b.y),
+            self.joined_edge(end, Axis::Z, a.z, b.z),
+        )
     }
 
     // The box of an inner node from those of its halves: the first `half` items, and the others.
@@ -211,7 +205,7 @@ impl<'m, 'a, 'i> Node<'m, 'a, 'i> {
         ensures { result ≡ Builder.node_box self.entry.mesh.now (sorted self.entry.items.now) }
     {
         let mesh = self.mesh;
-        lent_floats(mesh.coords);
+        lent::floats(mesh.coords);
         BoundingBox {
             min: self.joined_end(End::Lower, left.min, right.min),
             max: self.joined_end(End::Upper, left.max, right.max),

@@ -1,19 +1,20 @@
 // The subtree over some items of a mesh, written into the lent lists (csx's bvh.rs): a leaf, or both halves and the
-// node above them. The definitions are in crate builder, specs/Builder.antt (the rule), and in specs/Subtree.antt
-// (the room and the promise).
+// node above them. The definitions are in crate builder, specs/Builder.antt (the rule), and in
+// specs/steps/Subtree.antt (the room and the promise).
 
 pub mod leaf;
 
 ghost use Rattle.std.specs.Prelude.{◌≡◌, ◌+◌, ◌*◌, ◌≤◌, ◌<◌, length, set};
 ghost use Rattle.std.proofs.lemmas.List.Edits.{sets};
 ghost use Rattle.builder.specs.Builder as Builder;
-ghost use Rattle.bvh.specs.Subtree.{Room, Writes};
+ghost use Rattle.bvh.specs.steps.Subtree.{SubtreeRoom, Writes};
 
 use crate::extent::Node;
 use crate::median::halve;
 use crate::subtree::leaf::sort_items;
 use math::BoundingBox;
 use mesh::AcceptedMesh;
+use tree::put_node;
 
 // What was written of a subtree: the next free node is `end`, and the root's box is `bounds`.
 #[derive(Clone, Copy)]
@@ -30,15 +31,6 @@ fn put_box(boxes: &mut [f64], n: usize, b: BoundingBox)
     boxes[6 * n..6 * n + 6].copy_from_slice(&<[f64; 6]>::from(b));
 }
 
-// Writes the start and the count of node `n`. They are cut by `as`, with no `try_from`: the clause says that they fit,
-// so no error could be told.
-fn put_node(nodes: &mut [u32], n: usize, start: usize, count: usize)
-    requires { (2 * n + 2 ≤ length nodes.old) × (start < 4294967296) × (count < 4294967296) }
-    ensures { nodes.new ≡ set (set nodes.old (2 * n) start) (2 * n + 1) count }
-{
-    nodes[2 * n..2 * n + 2].copy_from_slice(&[start as u32, count as u32]);
-}
-
 // Writes a leaf as node `n`, its items sorted, which begin at place `i`.
 fn build_leaf(
     mesh: &AcceptedMesh,
@@ -48,13 +40,14 @@ fn build_leaf(
     n: usize,
     i: usize,
 ) -> Subtree
-    requires { Room mesh.now (length boxes.old) (length nodes.old) items.old n i × (length items.old ≤ 4) }
+    requires { SubtreeRoom mesh.now (length boxes.old) (length nodes.old) items.old n i × (length items.old ≤ 4) }
     ensures { Writes mesh.now boxes.old nodes.old items.old n i result boxes.new nodes.new items.new }
 {
     sort_items(items);
     let bounds = mesh.joined_boxes(items);
     put_box(boxes, n, bounds);
-    put_node(nodes, n, i, items.len());
+    let count = items.len();
+    put_node(nodes, n, tree::Node { start: i, count });
     Subtree { end: n + 1, bounds }
 }
 
@@ -69,7 +62,7 @@ pub fn build_node(
     n: usize,
     i: usize,
 ) -> Subtree
-    requires { Room mesh.now (length boxes.old) (length nodes.old) items.old n i }
+    requires { SubtreeRoom mesh.now (length boxes.old) (length nodes.old) items.old n i }
     ensures { Writes mesh.now boxes.old nodes.old items.old n i result boxes.new nodes.new items.new }
 {
     if items.len() <= 4 {
@@ -83,7 +76,14 @@ pub fn build_node(
     let right = build_node(mesh, boxes, nodes, back, left.end, i + half);
     let bounds = Node { mesh, items }.inner_box(half, left.bounds, right.bounds);
     put_box(boxes, n, bounds);
-    put_node(nodes, n, left.end, 0);
+    put_node(
+        nodes,
+        n,
+        tree::Node {
+            start: left.end,
+            count: 0,
+        },
+    );
     Subtree {
         end: right.end,
         bounds,

@@ -1,3 +1,3 @@
--- The definitions of crate `c_columns`: what its function promises to C beyond the entry that it calls.
-pub mod Columns
-pub mod ReadBack
+-- The definitions of crate `c_columns`: what its function promises to C beyond the entry that it calls. Below laws their laws.
+pub mod ColumnCall
+pub mod laws

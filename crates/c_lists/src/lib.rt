@@ -3,7 +3,7 @@
 
 ghost use Rattle.mesh.specs.Mesh as Meshes;
 ghost use Rattle.tree.specs.Tree as Trees;
-ghost use Rattle.c_lists.specs.Lists as Lists;
+ghost use Rattle.c_lists.specs.ListCall as ListCall;
 
 use mesh_questions::Mesh;
 use refusal::returned;
@@ -21,7 +21,7 @@ pub fn csx_contains_list(
     points: &[f64],
     answers: &mut [u8],
 ) -> u64
-    ensures { Lists.Contains (Meshes.mesh coords.now corners.now ends.now) (Trees.tree boxes.now nodes.now items.now) points.now work.old answers.old result work.new answers.new }
+    ensures { ListCall.Contains (Meshes.mesh coords.now corners.now ends.now) (Trees.tree boxes.now nodes.now items.now) points.now work.old answers.old result work.new answers.new }
 {
     // C lends list by list. A function that makes the mesh or the tree of three lists would be no shorter to call.
     let mesh = Mesh {

@@ -1,4 +1,4 @@
--- The definitions of crate `c_meshes`: what its functions promise to C beyond the entries that they call.
-pub mod Welding
-pub mod Trees
-pub mod ReadBack
+-- The definitions of crate `c_meshes`: what its functions promise to C beyond the entries that they call. Below laws their laws.
+pub mod WeldCall
+pub mod TreeCalls
+pub mod laws

@@ -1,5 +1,5 @@
 // Welding as a function for C.
-ghost use Rattle.c_meshes.specs.Welding as Welding;
+ghost use Rattle.c_meshes.specs.WeldCall as WeldCall;
 
 use refusal::Refusal;
 
@@ -12,7 +12,7 @@ pub fn csx_from_triangles(
     ends: &mut [u32],
     sizes: &mut [u64],
 ) -> u64
-    ensures { Welding.Welds triangles.now coords.old corners.old ends.old sizes.old result coords.new corners.new ends.new sizes.new }
+    ensures { WeldCall.Welds triangles.now coords.old corners.old ends.old sizes.old result coords.new corners.new ends.new sizes.new }
 {
     // Matches, and no `returned` as in the tree entries: with too few sizes a pass is refused too, and before the 0 is
     // returned the sizes are written.

@@ -1,7 +1,7 @@
 // The tree entries as functions for C.
 ghost use Rattle.mesh.specs.Mesh as Meshes;
 ghost use Rattle.tree.specs.Tree as LentTrees;
-ghost use Rattle.c_meshes.specs.Trees as Trees;
+ghost use Rattle.c_meshes.specs.TreeCalls as TreeCalls;
 
 use mesh_questions::Mesh;
 use refusal::returned;
@@ -16,7 +16,7 @@ pub fn csx_build_tree(
     nodes: &mut [u32],
     items: &mut [u32],
 ) -> u64
-    ensures { Trees.Builds (Meshes.mesh coords.now corners.now ends.now) boxes.old nodes.old items.old result boxes.new nodes.new items.new }
+    ensures { TreeCalls.Builds (Meshes.mesh coords.now corners.now ends.now) boxes.old nodes.old items.old result boxes.new nodes.new items.new }
 {
     // C lends list by list: a function that makes a mesh of three lists would be no shorter to call.
     let mesh = Mesh {
@@ -38,7 +38,7 @@ pub fn csx_check_tree(
     items: &[u32],
     work: &mut [u64],
 ) -> u64
-    ensures { Trees.Checks (Meshes.mesh coords.now corners.now ends.now) (LentTrees.tree boxes.now nodes.now items.now) work.old result work.new }
+    ensures { TreeCalls.Checks (Meshes.mesh coords.now corners.now ends.now) (LentTrees.tree boxes.now nodes.now items.now) work.old result work.new }
 {
     // Mesh and tree by the lists' names, as above.
     let mesh = Mesh {

@@ -6,7 +6,7 @@ ghost use Rattle.std.specs.Prelude.{◌≡◌, []};
 ghost use Rattle.sqrt.specs.Root as Root;
 ghost use Rattle.math.specs.Vectors.{vec};
 ghost use Rattle.shapes.specs.declared.Shape.TheVariants as Shapes;
-ghost use Rattle.primitives.specs.Questions.{shape_answer, value};
+ghost use Rattle.primitives.specs.ShapeQuestions.{shape_answer, value};
 
 use math::Vec3;
 use shapes::Shape;

@@ -1,7 +1,7 @@
 -- Every row of the table holds: one computed test over all rows, and the law that turns it into each row.
 use Rattle.std.specs.Prelude.{ℕ, zero, suc, ◌<◌, ◌≡◌, refl, true, List, [], ◌∷◌, eqb, length, get_or}
 use Rattle.std.proofs.Common.{arith, sym, true≢false, eqb-true}
-use Rattle.refusal.specs.Verdicts.{both}
+use Rattle.refusal.specs.laws.VerdictLaws.{both}
 use Rattle.std.specs.Float.Ieee.{to_bits, of_bits, le, lt, ne, eq, add, sub, mul}
 use Rattle.float.specs.Rules as Rules
 use Rattle.sqrt.specs.Root.{root}
@@ -13,16 +13,16 @@ use Rattle.shapes.specs.Round.{inside_sphere, axial, in_cylinder, inside_cylinde
 use Rattle.shapes.specs.Polylines.{dist_from, polyline_dist, inside_wire}
 use Rattle.shapes.specs.Planes.{plane_axes, inside_prism, inside_polygon}
 use Rattle.shapes.specs.Shapes.{inside}
-use Rattle.primitives.specs.Questions.{shape_answer, whole, whole_entries, finite_numbers, finite_point, all_finite}
-use Rattle.keys.specs.Sorting.{count, sorted_by, insert_by}
-use Rattle.edges.specs.Edges.{edge_key, keys_from, face_keys, edge_keys, twice_in, closed}
+use Rattle.primitives.specs.ShapeQuestions.{shape_answer, shape_verdict, whole, whole_entries, finite_numbers, finite_point, all_finite}
+use Rattle.keys.specs.Sorting.{sorted_by, insert_by}
+use Rattle.edges.specs.Edges.{edges_from, face_edges, edges, same_edge, uses, all_twice, closed}
 use Rattle.tree.specs.Tree.{node_count}
 use Rattle.builder.specs.Builder.{layout, lists, builder_tree, tree_over, build, size, node_list, left_items, right_items, by_center, split_axis, wider, spread, highest, lowest, center_key, center_on, center_of, join_all, node_box, box_list, item_list}
-use Rattle.mesh.specs.Mesh.{triangle_count, numbers, own_box}
+use Rattle.mesh.specs.Mesh.{numbers, own_box}
 use Rattle.mesh.specs.Triangles.{triangles, fans, fan, fan_from}
 use Rattle.mesh_questions.specs.Faces.{faces, faces_from}
-use Rattle.mesh.specs.Boxes.{triangle_center, triangle_box, vertex}
-use Rattle.math.specs.Boxes as Boxes
+use Rattle.mesh.specs.MeshBoxes.{triangle_center, triangle_box, vertex}
+use Rattle.math.specs.BoundingBoxes as BoundingBoxes
 use Rattle.cases.specs.Table.{Row, outcome, table, same, all_give}
 
 -- lists that pass the test are the same
@@ -44,7 +44,7 @@ each_of (r ∷ rest) (suc i) d e h = each_of rest i d (both (same (outcome r.cas
 
 -- the one fact
 all_rows : all_give table ≡ true
-unfolding all_give table same outcome root to_bits of_bits le lt ne eq add sub mul Rules.min Rules.max Rules.abs Rules.is_finite order_key plane_axes in_range between tol tol_of scale scale_from shape_answer whole_entries whole finite_numbers finite_point all_finite inside inside_sphere inside_cylinder in_cylinder axial inside_polygon inside_prism point_in_polygon in_polygon points2 inside_wire polyline_dist dist_from Vectors.points Vectors.is_finite Vectors.component Vectors.sub Vectors.dot Vectors.norm_sq Vectors.norm closed twice_in edge_keys face_keys keys_from edge_key count node_count layout lists builder_tree tree_over build size node_list left_items right_items by_center split_axis wider spread highest lowest center_key center_on center_of triangle_count numbers triangles fans fan fan_from faces faces_from sorted_by insert_by triangle_center triangle_box vertex key_of own_box join_all node_box box_list item_list Vectors.at Vectors.add Vectors.mul Vectors.min Vectors.max Boxes.center Boxes.include Boxes.empty Boxes.join
+unfolding all_give table same outcome root to_bits of_bits le lt ne eq add sub mul Rules.min Rules.max Rules.abs Rules.is_finite order_key plane_axes in_range between tol tol_of scale scale_from shape_answer shape_verdict whole_entries whole finite_numbers finite_point all_finite inside inside_sphere inside_cylinder in_cylinder axial inside_polygon inside_prism point_in_polygon in_polygon points2 inside_wire polyline_dist dist_from Vectors.points Vectors.is_finite Vectors.component Vectors.sub Vectors.dot Vectors.norm_sq Vectors.norm closed all_twice uses same_edge edges face_edges edges_from node_count layout lists builder_tree tree_over build size node_list left_items right_items by_center split_axis wider spread highest lowest center_key center_on center_of numbers triangles fans fan fan_from faces faces_from sorted_by insert_by triangle_center triangle_box vertex key_of own_box join_all node_box box_list item_list Vectors.at Vectors.add Vectors.mul Vectors.min Vectors.max BoundingBoxes.center BoundingBoxes.include BoundingBoxes.empty BoundingBoxes.join
 all_rows = refl
 
 -- each row of the table

@@ -1,2 +1,2 @@
--- Document 01's starred cases: the table. That every row holds is proofs/TableTheorem.antt.
+-- The definitions of crate `cases`: the table of document 01's starred cases. That every row holds is proofs/TableTheorem.antt.
 pub mod Table

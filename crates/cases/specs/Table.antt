@@ -10,7 +10,7 @@ use Rattle.geom.specs.Tolerance.{in_range}
 use Rattle.shapes.specs.Planes.{plane_axes}
 use Rattle.shapes.specs.declared.Shape.{Shape}
 use Rattle.shapes.specs.declared.Shape.TheVariants.{Sphere, Cylinder, Polygon, Wire}
-use Rattle.primitives.specs.Questions.{shape_answer, value}
+use Rattle.primitives.specs.ShapeQuestions.{shape_answer, value}
 use Rattle.mesh.specs.Mesh.{Mesh, mesh}
 use Rattle.edges.specs.Edges.{closed}
 use Rattle.tree.specs.Tree.{node_count}

@@ -6,11 +6,11 @@ use Rattle.refusal.specs.declared.Refusal.TheVariants as Refusals
 use Rattle.refusal.specs.Verdicts.{Verdict, ask, then, answered, written}
 use Rattle.text.specs.declared.Counts.{Counts}
 use Rattle.text.specs.Lines.{none, lines, judge}
-use Rattle.numbers.specs.Numbers.{float_of, corner_of, numbers_of, ends_from}
+use Rattle.column.specs.Numbers.{float_of, corner_of, numbers_of, ends_from}
 use Rattle.text.specs.Listing.{listing_text, listing_length}
 use Rattle.mesh.specs.Mesh.{Mesh, mesh}
-use Rattle.mesh_questions.specs.Questions.{ask_mesh}
-use Rattle.polyhedron.specs.Lists.{answers_to}
+use Rattle.mesh_questions.specs.MeshQuestions.{ask_mesh}
+use Rattle.polyhedron.specs.PointLists.{answers_to}
 
 -- ---- what the lines become
 
@@ -30,9 +30,9 @@ unfoldable pub ask_column : Mesh → ℕ → ℕ → Verdict
 ask_column m points room = then (ask_mesh m.coords m.corners m.ends) (ask (leb (listing_length points) room) Refusals.Room)
 
 -- 12 first, then these
-unfoldable pub column_verdict : Result Counts ℕ → List (List ℕ) → ℕ → Verdict
-column_verdict (Err line) l room = Err (Refusals.Line line)
-column_verdict (Ok counts) l room = ask_column (mesh_of counts l) counts.points room
+unfoldable pub judged_verdict : Result Counts ℕ → List (List ℕ) → ℕ → Verdict
+judged_verdict (Err line) l room = Err (Refusals.Line line)
+judged_verdict (Ok counts) l room = ask_column (mesh_of counts l) counts.points room
 
 -- the listing of the plain scan's answers
 unfoldable pub column_listing : Result Counts ℕ → List (List ℕ) → List ℕ
@@ -44,14 +44,14 @@ unfoldable pub judged : List ℕ → Result Counts ℕ
 judged text = judge 1 none (lines text)
 
 -- the verdict on a text and a buffer of so many bytes
-unfoldable pub verdict : List ℕ → ℕ → Verdict
-verdict text room = column_verdict (judged text) (lines text) room
+unfoldable pub column_verdict : List ℕ → ℕ → Verdict
+column_verdict text room = judged_verdict (judged text) (lines text) room
 
 -- what the call writes: the listing, or nothing if a question refuses
 unfoldable pub column_answer : List ℕ → ℕ → List ℕ
-column_answer text room = written (verdict text room) (column_listing (judged text) (lines text))
+column_answer text room = written (column_verdict text room) (column_listing (judged text) (lines text))
 
 -- what `point_list` promises: the number of bytes or the refusal, and of the buffer, lent as ₀ and left as ₁, the listing in front and the rest as it was
 pub record Lists (text listing₀ : List ℕ) (result : Result ℕ Refusal) (listing₁ : List ℕ) : Type 0 where
-  pub answer : result ≡ answered (verdict text (length listing₀)) (length (column_answer text (length listing₀)))
+  pub answer : result ≡ answered (column_verdict text (length listing₀)) (length (column_answer text (length listing₀)))
   pub listing : listing₁ ≡ over (column_answer text (length listing₀)) listing₀

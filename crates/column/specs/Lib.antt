@@ -1,6 +1,5 @@
--- The definitions of crate `column`, and their laws.
+-- The definitions of crate `column`; below steps what its inner functions promise, below laws their laws.
+pub mod Numbers
 pub mod Column
-pub mod Sections
-pub mod CallLaws
-pub mod Answers
-pub mod AnswerLaws
+pub mod steps
+pub mod laws

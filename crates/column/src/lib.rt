@@ -2,11 +2,12 @@
 #![tactic(auto)]
 
 pub mod answers;
+pub mod numbers;
 
 ghost use Rattle.std.specs.Prelude.{◌≡◌, Ok, length};
-ghost use Rattle.column.specs.Answers.{Few};
+ghost use Rattle.column.specs.steps.Answers.{Few};
 ghost use Rattle.column.specs.Column as Column;
-ghost use Rattle.column.specs.Sections as Sections;
+ghost use Rattle.column.specs.steps.Sections as Sections;
 
 use mesh_questions::Mesh;
 use refusal::Refusal;
@@ -34,7 +35,7 @@ fn list_answers(
 
 // The listing of a text whose lines are all good, so many of each kind. What they say is written into the lent lists.
 // The six are no struct: the counts say how much of each is filled, and each goes to another call.
-#[tactic(auto, using(crate::specs::CallLaws::sizes, crate::specs::CallLaws::fronts))]
+#[tactic(auto, using(crate::specs::laws::CallLaws::sizes, crate::specs::laws::CallLaws::fronts))]
 fn list_into(
     text: &[u8],
     counts: Counts,

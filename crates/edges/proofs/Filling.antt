@@ -10,19 +10,20 @@ use lib.Dec.{leb}
 use lib.ListN.{length, get_or, set, take, drop, length-append, length-take, length-drop, drop_of_length-le}
 use lib.Seq.{drop-cons}
 use borrow.Author.Tests.{leb-true}
-use Rattle.refusal.specs.Verdicts.{both}
-use Rattle.lent.specs.Over.{over, over_nothing, over_take, over_on}
+use Rattle.refusal.specs.laws.VerdictLaws.{both}
+use Rattle.lent.specs.Over.{over}
+use Rattle.lent.specs.laws.OverLaws.{over_nothing, over_take, over_on}
 use Rattle.mesh_questions.specs.Faces.{faces, faces_from}
-use Rattle.mesh_questions.specs.Questions.{ends_fit}
-use Rattle.edges.specs.Edges.{edge_key, keys_from, face_keys, edge_keys}
-use Rattle.mesh_questions.specs.QuestionLaws.{ends_fit_le}
-use Rattle.edges.specs.EdgeLaws.{keys_from_at, length_keys_from, length_face_keys}
+use Rattle.mesh_questions.specs.MeshQuestions.{ends_fit}
+use Rattle.edges.specs.Edges.{edges_from, face_edges, edges, edge_key, face_keys, edge_keys}
+use Rattle.mesh_questions.specs.laws.QuestionLaws.{ends_fit_le}
+use Rattle.edges.specs.laws.EdgeLaws.{keys_from, keys_from_at, length_keys_from, length_face_keys, edge_keys_cons}
 
 -- ---- corner by corner
 
 -- a face's edges go round it, from its first corner back to that
 face_keys_from : (face : List ℕ) → face_keys face ≡ keys_from (get_or face 0 0) face
-unfolding face_keys keys_from
+unfolding face_keys face_edges edges_from
 face_keys_from [] = refl
 face_keys_from (a ∷ face) = refl
 
@@ -59,7 +60,7 @@ filled_none corners ends work₀ fit = record {
 
 module _ {corners ends work₀ : List ℕ} {start f : ℕ} {work : List ℕ} (filled : Filled corners ends work₀ start f work) where
   pub filled_all : length ends ≤ f → work ≡ over (edge_keys (faces corners ends)) work₀
-  unfolding faces_from edge_keys
+  unfolding faces_from edge_keys edges
   filled_all h =
       let rest = rw (drop_of_length-le ends h, append-nil) at filled.whole in
       filled.written ∙ rw rest
@@ -89,12 +90,12 @@ module _ {corners ends work₀ : List ℕ} {start f : ℕ} {work : List ℕ} (fi
     -- the buffer with the face's keys behind the others
     pub filled_next : (part : List ℕ) → part ≡ over (face_keys face) (take (end - start) (drop start work))
         → Filled corners ends work₀ end (f + 1) (take start work ++ (part ++ drop (end - start) (drop start work)))
-    unfolding faces_from edge_keys
+    unfolding faces_from
     filled_next part e = record {
       done = filled.done ++ face_keys face;
       size = simp (length-append, length_face, filled.size) (omega (arith, next_end));
       within = next_end.1;
       written = rw (e, filled.written) (over_on filled.done (face_keys face) work₀ start (end - start) filled.size length_face);
-      whole = rw append_assoc (rw ahead at filled.whole);
+      whole = rw (append_assoc, ← edge_keys_cons) (rw ahead at filled.whole);
       fits = ends_ahead.1;
     }

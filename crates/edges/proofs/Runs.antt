@@ -8,7 +8,7 @@ use Rattle.std.specs.Iterator.{AlwaysYields}
 use Rattle.std.specs.Slice.Iter.{chunk_by_rest, chunk_by_callee, chunk_by_steps}
 use Rattle.std.proofs.lemmas.Iterator.{YieldsList}
 use Rattle.std.specs.declared.slice.ChunkBy.{ChunkBy}
-use Rattle.edges.specs.Pairs.{starts_with, in_pairs}
+use Rattle.edges.specs.steps.Pairs.{starts_with, in_pairs}
 
 -- a key in front of runs joins the first of them if it is the same
 join : ℕ → List (List ℕ) → List (List ℕ)

@@ -1,7 +1,4 @@
--- The definitions of crate `edges`, and the laws that other crates cite.
+-- The definitions of crate `edges`; below steps what its inner functions promise, below laws their laws.
 pub mod Edges
-pub mod Below
-pub mod Pairs
-pub mod EdgeLaws
-pub mod PairLaws
-pub mod ClosedLaws
+pub mod steps
+pub mod laws

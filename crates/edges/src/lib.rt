@@ -1,18 +1,18 @@
-// The edges of a mesh as keys, and whether a mesh is closed: document 01, Mesh rule and Room. Sorted
-// keys tell in one pass whether each edge is used exactly twice. The definitions are in specs/.
+// The edges of a mesh as keys, and whether a mesh is closed: document 01, Room and Mesh rule. Whether each edge is used
+// exactly twice is said of pairs of vertices; the sorted keys tell it in one pass. The definitions are in specs/.
 #![tactic(auto)]
 
 ghost use Rattle.std.specs.Prelude.{true, ◌≡◌, ◌≤◌, length};
 ghost use Rattle.keys.specs.Sorting.{sorted};
 ghost use Rattle.lent.specs.Over.{over};
 ghost use Rattle.mesh_questions.specs.Faces.{faces};
-ghost use Rattle.mesh_questions.specs.Questions.{ends_fit};
+ghost use Rattle.mesh_questions.specs.MeshQuestions.{ends_fit};
 ghost use Rattle.edges.specs.Edges.{edge_key, face_keys, edge_keys, closed};
-ghost use Rattle.edges.specs.Below.{Below};
-ghost use Rattle.edges.specs.Pairs.{in_pairs, closed_keys};
+ghost use Rattle.edges.specs.steps.Below.{Below};
+ghost use Rattle.edges.specs.steps.Pairs.{in_pairs, closed_keys};
 
 // The key of an edge: smaller vertex × 65,536 + larger.
-#[tactic(auto, using(crate::specs::EdgeLaws::edge_key_min))]
+#[tactic(auto, using(crate::specs::laws::EdgeLaws::edge_key_min))]
 fn edge_key(a: u32, b: u32) -> u64
     ensures { result ≡ edge_key a b }
 {
@@ -68,9 +68,9 @@ fn in_pairs(keys: &[u64]) -> bool
     keys.chunk_by(|a, b| a == b).all(|run| run.len() == 2)
 }
 
-// Whether a mesh is closed: it has so many faces, and these are the keys of its edges in ascending
-// order (`closed_keys_closed` in specs/PairLaws.antt).
-#[tactic(auto, unfolding(crate::specs::Pairs::closed_keys))]
+// Whether a mesh is closed: it has so many faces, and these are the keys of its edges in ascending order. A key
+// stands for one edge where vertices are below 65,536 (`closed_keys_closed` in specs/laws/PairLaws.antt).
+#[tactic(auto, unfolding(crate::specs::steps::Pairs::closed_keys))]
 pub fn is_closed(faces: usize, keys: &[u64]) -> bool
     ensures { result ≡ closed_keys faces keys.now }
 {
@@ -78,7 +78,7 @@ pub fn is_closed(faces: usize, keys: &[u64]) -> bool
 }
 
 // Writes the keys of all edges in ascending order, and says whether the mesh is closed.
-#[tactic(auto, using(crate::specs::PairLaws::closed_of))]
+#[tactic(auto, using(crate::specs::laws::PairLaws::closed_of))]
 pub fn keys_closed(corners: &[u32], ends: &[u32], work: &mut [u64]) -> bool
     requires { (ends_fit 0 (length corners.now) ends.now ≡ true) × Below 65536 corners.now × (length corners.now ≤ length work.old) }
     ensures { (result ≡ closed (faces corners.now ends.now)) × (work.new ≡ over (sorted (edge_keys (faces corners.now ends.now))) work.old) }

@@ -19,8 +19,8 @@ use Rattle.std.specs.Float.Ieee.Exact.{round_exact}
 use Rattle.std.specs.Float.Ieee.Fits.{up_pos, down_pos, rem-fits}
 use Rattle.std.specs.Float.Ieee.Scale.{round_same}
 use Rattle.float.specs.TotalOrder.{negative}
-use Rattle.float.specs.OrderTheorems.Value.{Is, Size, of_finite}
-use Rattle.float.specs.OrderTheorems.Pattern.{magnitude, sign_bit, rest, of_pattern, infinite_pattern, infinity_magnitude, magnitude_grows, magnitude_subnormal, magnitude_normal}
+use Rattle.float.specs.laws.OrderTheorems.Value.{Is, Size, of_finite}
+use Rattle.float.specs.laws.OrderTheorems.Pattern.{magnitude, sign_bit, rest, of_pattern, infinite_pattern, infinity_magnitude, magnitude_grows, magnitude_subnormal, magnitude_normal}
 
 -- ---- whole numbers
 

@@ -1,10 +1,7 @@
--- The definitions of crate `float`, and the laws that other crates cite.
+-- The definitions of crate `float`; below steps what its inner functions promise, below laws their laws, the order of floats among them.
 pub mod Rules
 pub mod Arithmetic
-pub mod Tests
 pub mod Quanta
 pub mod TotalOrder
-pub mod Order
-pub mod Patterns
-pub mod OrderTheorems
-pub mod Remainder
+pub mod steps
+pub mod laws

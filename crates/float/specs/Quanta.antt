@@ -1,4 +1,4 @@
--- The size of a finite binary64 value as a whole number. Definition only.
+-- The size of a finite value of IEEE 754's binary64 as a whole number. Definition only.
 use Rattle.std.specs.Prelude.{ℕ, ◌*◌, ◌/◌, ◌^◌, Float}
 use Rattle.std.specs.Float.{nan, inf, fin}
 use Rattle.std.specs.Float.Ieee.{up, down}

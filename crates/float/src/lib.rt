@@ -1,18 +1,19 @@
 // Operations on `f64` as Rust's standard library has them, and the sort key of an `f64`. The definitions
-// are in specs/Rules.antt and specs/TotalOrder.antt, the theorems about them in specs/OrderTheorems.antt.
+// are in specs/Rules.antt and specs/TotalOrder.antt, the theorems about them in
+// specs/laws/OrderTheorems.antt.
 #![tactic(auto)]
 
 mod remainder;
 
 ghost use Rattle.std.specs.Prelude.{◌≡◌};
-ghost use Rattle.float.specs.Order.{Number};
+ghost use Rattle.float.specs.laws.Order.{Number};
 ghost use Rattle.float.specs.Rules as Rules;
 ghost use Rattle.float.specs.TotalOrder as TotalOrder;
 
 // The smaller of the two. Of two equal zeros it is the left one, of a NaN and a number the number. (`f64::min` leaves
 // open which of two equal zeros it gives.) `min` and `max` stay two, as in the library, and so do `lower` and `higher`:
 // the two of a pair differ in their comparison, and a function that is handed it would be no shorter.
-#[tactic(auto, unfolding(crate::specs::Rules::min), using(crate::specs::Patterns::ne_self))]
+#[tactic(auto, unfolding(crate::specs::Rules::min), using(crate::specs::laws::Patterns::ne_self))]
 pub fn min(a: f64, b: f64) -> f64
     ensures { result ≡ Rules.min a b }
 {
@@ -23,7 +24,7 @@ pub fn min(a: f64, b: f64) -> f64
 }
 
 // The larger of the two, with the same choices.
-#[tactic(auto, unfolding(crate::specs::Rules::max), using(crate::specs::Patterns::ne_self))]
+#[tactic(auto, unfolding(crate::specs::Rules::max), using(crate::specs::laws::Patterns::ne_self))]
 pub fn max(a: f64, b: f64) -> f64
     ensures { result ≡ Rules.max a b }
 {
@@ -34,7 +35,7 @@ pub fn max(a: f64, b: f64) -> f64
 }
 
 // `min` of a left side that is no NaN: one comparison.
-#[tactic(auto, unfolding(crate::specs::Rules::min), using(crate::specs::Order::itself))]
+#[tactic(auto, unfolding(crate::specs::Rules::min), using(crate::specs::laws::Order::itself))]
 pub fn lower(a: f64, b: f64) -> f64
     requires { Number a }
     ensures { result ≡ Rules.min a b }
@@ -43,7 +44,7 @@ pub fn lower(a: f64, b: f64) -> f64
 }
 
 // `max` of a left side that is no NaN: one comparison.
-#[tactic(auto, unfolding(crate::specs::Rules::max), using(crate::specs::Order::itself))]
+#[tactic(auto, unfolding(crate::specs::Rules::max), using(crate::specs::laws::Order::itself))]
 pub fn higher(a: f64, b: f64) -> f64
     requires { Number a }
     ensures { result ≡ Rules.max a b }

@@ -2,8 +2,8 @@
 // as `%` does, starts only where the C library is as new as the one that it was linked with.
 ghost use Rattle.std.specs.Prelude.{◌≡◌, ◌+◌, ◌-◌, ◌*◌, ◌%◌, ◌^◌, ◌<◌, ◌≤◌, ◌⊎◌};
 ghost use Rattle.std.specs.Float.Ieee.{binary64, rem};
-ghost use Rattle.float.specs.OrderTheorems.Pattern.{magnitude};
-ghost use Rattle.float.specs.Remainder.{Parts};
+ghost use Rattle.float.specs.laws.OrderTheorems.Pattern.{magnitude};
+ghost use Rattle.float.specs.steps.Remainder.{Parts};
 
 // The weight of the exponent's field, the pattern of infinity, and the weight of the sign.
 const FIELD: u64 = 0x10_0000_0000_0000;

@@ -1,5 +1,6 @@
--- The definitions of crate `geom`, and the laws that other crates cite.
+-- The definitions of crate `geom`; below laws their laws.
 pub mod Tolerance
 pub mod Segments
 pub mod Polygons
 pub mod Angles
+pub mod laws

@@ -1,8 +1,6 @@
--- csx's tolerances (geom.rs): `tol`, `in_range`, `angle_ok`, and the largest magnitude of a list. Definitions, and the law by which a
--- loop over the list computes `scale`.
-use Rattle.std.specs.Prelude.{Bool, cond, ◌&&◌, ℕ, ◌+◌, ◌<◌, ◌≡◌, List, [], ◌∷◌, length, get_or, drop, Float}
-use Rattle.std.proofs.Common.{add-one, drop-cons}
-use Rattle.std.specs.Float.{nan, binary64}
+-- csx's tolerances (geom.rs): `tol`, `in_range`, `angle_ok`, and the largest magnitude of a list. Definitions only.
+use Rattle.std.specs.Prelude.{Bool, cond, ◌&&◌, List, [], ◌∷◌, Float}
+use Rattle.std.specs.Float.{binary64}
 use Rattle.std.specs.Float.Ieee.{of_bits, le}
 use Rattle.float.specs.Arithmetic.{◌⊕◌, ◌⊖◌, ◌⊗◌, zero}
 use Rattle.float.specs.Rules.{max, abs}
@@ -44,8 +42,3 @@ scale_from m (x ∷ rest) = scale_from (max m (abs x)) rest
 -- the largest magnitude of the list
 unfoldable pub scale : List Float → Float
 scale list = scale_from zero list
-
--- from place i on, the number there is taken in before the rest
-pub scale_from_next : (m : Float) (l : List Float) (i : ℕ) → i < length l → scale_from m (drop i l) ≡ scale_from (max m (abs (get_or l i nan))) (drop (i + 1) l)
-unfolding scale_from
-scale_from_next m l i h = rw (add-one, drop-cons l i nan)

@@ -1,4 +1,6 @@
--- The definitions of crate `lent`, and their laws.
+-- The definitions of crate `lent`; below laws their laws.
 pub mod Over
+pub mod Every
+pub mod Floats
 pub mod Reordered
-pub mod ReorderedLaws
+pub mod laws

@@ -1,4 +1,4 @@
--- One list is another in some order. Definitions only.
+-- One list is another in some order (document 01, Mesh rule: reordered faces). Definitions only.
 use Rattle.std.specs.Prelude.{List, [], ◌∷◌}
 
 -- l and m have the same elements, each as often, in some order: m comes from l by exchanging neighbours

@@ -1,7 +1,5 @@
--- The definitions of crate `math`, and laws of vectors and boxes.
+-- The definitions of crate `math`; below steps what its inner functions promise, below laws their laws.
 pub mod Vectors
-pub mod Boxes
-pub mod Enclosing
-pub mod Alike
-pub mod Chunks
-pub mod Corners
+pub mod BoundingBoxes
+pub mod steps
+pub mod laws

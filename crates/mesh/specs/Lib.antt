@@ -1,14 +1,7 @@
--- The definitions of crate `mesh`, and the laws that other crates cite.
-pub mod Axes
+-- The definitions of crate `mesh`; below steps what its inner functions promise, below laws their laws.
 pub mod Triangles
-pub mod Fans
-pub mod TriangleLaws
-pub mod Boxes
+pub mod MeshBoxes
 pub mod Mesh
-pub mod MeshLaws
-pub mod Places
-pub mod Centers
-pub mod Corners
-pub mod Items
-pub mod PermutedBoxes
-pub mod Rewriting
+pub mod WorkPlaces
+pub mod steps
+pub mod laws

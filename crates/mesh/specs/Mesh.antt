@@ -1,17 +1,13 @@
--- The triangles of a mesh by number. Definitions only.
-use Rattle.std.specs.Prelude.{ℕ, zero, suc, ◌+◌, List, [], ◌∷◌, length, get_or}
-pub use Rattle.mesh_questions.specs.Mesh.{Mesh, mesh}
+-- The triangles of a mesh by number, and boxes joined from theirs (document 01, Mesh rule and builder rule). Definitions only.
+use Rattle.std.specs.Prelude.{ℕ, zero, suc, ◌+◌, List, [], ◌∷◌, get_or}
+pub use Rattle.mesh_questions.specs.Mesh.{Mesh, mesh, triangle_count}
 use Rattle.math.specs.declared.BoundingBox.{BoundingBox}
 use Rattle.math.specs.declared.CornerPoints.{CornerPoints}
-use Rattle.math.specs.Boxes.{empty, join}
+use Rattle.math.specs.BoundingBoxes.{empty, join}
 use Rattle.mesh.specs.declared.Triangle.{Triangle}
 use Rattle.mesh.specs.Triangles.{triangle, triangles}
-use Rattle.mesh.specs.Boxes as Boxes
-use Rattle.mesh.specs.Boxes.{triangle_box}
-
--- how many triangles the mesh has
-unfoldable pub triangle_count : Mesh → ℕ
-triangle_count m = length (triangles m.corners m.ends)
+use Rattle.mesh.specs.MeshBoxes as MeshBoxes
+use Rattle.mesh.specs.MeshBoxes.{triangle_box}
 
 -- triangle t
 abbrev pub triangle_at : Mesh → ℕ → Triangle
@@ -19,7 +15,7 @@ triangle_at m t = get_or (triangles m.corners m.ends) t (triangle 0 0 0)
 
 -- its corners
 abbrev pub corner_points : Mesh → ℕ → CornerPoints
-corner_points m t = Boxes.corner_points m.coords (triangle_at m t)
+corner_points m t = MeshBoxes.corner_points m.coords (triangle_at m t)
 
 -- the own box of triangle t
 unfoldable pub own_box : Mesh → ℕ → BoundingBox

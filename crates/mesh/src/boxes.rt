@@ -1,11 +1,12 @@
 // The boxes of a mesh and its triangles, and what is worked out of the mesh's box once a list. The
-// definitions are in specs/Boxes.antt and specs/Centers.antt.
-ghost use Rattle.std.specs.Prelude.{◌≡◌, ◌+◌, ◌-◌, ◌*◌, ◌<◌, length};
-ghost use Rattle.math.specs.Corners as Corners;
+// definitions are in specs/MeshBoxes.antt and specs/Mesh.antt, for an axis in specs/steps/Axes.antt.
+ghost use Rattle.std.specs.Prelude.{◌≡◌, ◌+◌, ◌*◌, ◌<◌, length};
+ghost use Rattle.math.specs.steps.Corners as Corners;
 ghost use Rattle.math.specs.Vectors.{component};
-ghost use Rattle.mesh.specs.Axes as Axes;
-ghost use Rattle.mesh.specs.Boxes as Boxes;
-ghost use Rattle.mesh.specs.Items as Items;
+ghost use Rattle.mesh.specs.steps.Axes as Axes;
+ghost use Rattle.mesh.specs.steps.TriangleCorners as TriangleCorners;
+ghost use Rattle.mesh.specs.MeshBoxes as MeshBoxes;
+ghost use Rattle.mesh.specs.steps.Items as Items;
 ghost use Rattle.mesh.specs.Mesh as Mesh;
 
 use crate::{AcceptedMesh, Axis, Triangle};
@@ -21,20 +22,20 @@ pub struct Bounds {
 }
 
 // Vertex `v`.
-#[tactic(auto, unfolding(crate::specs::Boxes::vertex))]
+#[tactic(auto, unfolding(crate::specs::MeshBoxes::vertex))]
 pub fn vertex(coords: &[f64], v: u32) -> Vec3
     requires { 3 * v + 2 < length coords.now }
-    ensures { result ≡ Boxes.vertex coords.now v }
+    ensures { result ≡ MeshBoxes.vertex coords.now v }
 {
     Vec3::at(coords, 3 * (v as usize))
 }
 
 // A triangle's own box. Neither this nor the centre is a method of `AcceptedMesh`: they are promised of coordinates of
 // any kind, finite or not.
-#[tactic(auto, unfolding(crate::specs::Boxes::triangle_box))]
+#[tactic(auto, unfolding(crate::specs::MeshBoxes::triangle_box))]
 pub fn triangle_box(coords: &[f64], t: Triangle) -> BoundingBox
-    requires { Boxes.Corners coords.now t }
-    ensures { result ≡ Boxes.triangle_box coords.now t }
+    requires { TriangleCorners.Corners coords.now t }
+    ensures { result ≡ MeshBoxes.triangle_box coords.now t }
 {
     BoundingBox::empty()
         .include(vertex(coords, t.a))
@@ -43,10 +44,10 @@ pub fn triangle_box(coords: &[f64], t: Triangle) -> BoundingBox
 }
 
 // The centre of a triangle's own box.
-#[tactic(auto, unfolding(crate::specs::Boxes::triangle_center))]
+#[tactic(auto, unfolding(crate::specs::MeshBoxes::triangle_center))]
 pub fn triangle_center(coords: &[f64], t: Triangle) -> Vec3
-    requires { Boxes.Corners coords.now t }
-    ensures { result ≡ Boxes.triangle_center coords.now t }
+    requires { TriangleCorners.Corners coords.now t }
+    ensures { result ≡ MeshBoxes.triangle_center coords.now t }
 {
     triangle_box(coords, t).center()
 }
@@ -62,8 +63,8 @@ impl Axis {
 
 // The centre of a triangle's own box on an axis, where its corners are finite: that axis alone is worked out.
 pub fn center_on(coords: &[f64], t: Triangle, axis: Axis) -> f64
-    requires { Boxes.Corners coords.now t × Boxes.Finite coords.now t }
-    ensures { result ≡ component (Boxes.triangle_center coords.now t) (Axes.place axis) }
+    requires { TriangleCorners.Corners coords.now t × TriangleCorners.Finite coords.now t }
+    ensures { result ≡ component (MeshBoxes.triangle_center coords.now t) (Axes.place axis) }
 {
     let k = axis.place();
     let a = coords[3 * (t.a as usize) + k];
@@ -75,7 +76,7 @@ pub fn center_on(coords: &[f64], t: Triangle, axis: Axis) -> f64
 impl<'a> AcceptedMesh<'a> {
     // The corners of triangle `t`.
     pub fn corner_points(&self, t: u32) -> CornerPoints
-        requires { t < length self.now.corners - 2 * length self.now.ends }
+        requires { Items.Item self.now t }
         ensures points { result ≡ Mesh.corner_points self.now t }
         ensures finite { Corners.Finite result }
     {
@@ -88,9 +89,9 @@ impl<'a> AcceptedMesh<'a> {
     }
 
     // The own box of triangle `t`.
-    #[tactic(auto, unfolding(crate::specs::Mesh::own_box), using(crate::specs::Boxes::points_box))]
+    #[tactic(auto, unfolding(crate::specs::Mesh::own_box), using(crate::specs::laws::MeshBoxLaws::points_box))]
     pub fn own_box(&self, t: u32) -> BoundingBox
-        requires { t < length self.now.corners - 2 * length self.now.ends }
+        requires { Items.Item self.now t }
         ensures { result ≡ Mesh.own_box self.now t }
     {
         self.corner_points(t).own_box()
@@ -98,8 +99,8 @@ impl<'a> AcceptedMesh<'a> {
 
     // The centre of the own box of triangle `t` on an axis.
     pub fn center_on(&self, t: u32, axis: Axis) -> f64
-        requires { t < length self.now.corners - 2 * length self.now.ends }
-        ensures { result ≡ component (Boxes.triangle_center self.now.coords (Mesh.triangle_at self.now t)) (Axes.place axis) }
+        requires { Items.Item self.now t }
+        ensures { result ≡ component (MeshBoxes.triangle_center self.now.coords (Mesh.triangle_at self.now t)) (Axes.place axis) }
     {
         center_on(self.coords, self.triangle(t as usize), axis)
     }
@@ -120,35 +121,32 @@ impl<'a> AcceptedMesh<'a> {
 
 // The box of all vertices, used or not.
 pub fn mesh_box(coords: &[f64]) -> BoundingBox
-    ensures { result ≡ Boxes.mesh_box coords.now }
+    ensures { result ≡ MeshBoxes.mesh_box coords.now }
 {
-    let (vertices, _) = coords.as_chunks::<3>();
-    vertices
-        .iter()
-        .fold(BoundingBox::empty(), |b, v| { b.include(Vec3::from(*v)) })
+    BoundingBox::from_points(coords)
 }
 
 // The tolerance of the surface test of a mesh with this box.
-#[tactic(auto, unfolding(crate::specs::Boxes::surface_eps))]
+#[tactic(auto, unfolding(crate::specs::MeshBoxes::surface_eps))]
 fn surface_eps(b: BoundingBox) -> f64
-    ensures { result ≡ Boxes.surface_eps b }
+    ensures { result ≡ MeshBoxes.surface_eps b }
 {
     let size = b.size().norm();
     geom::tol_of(float::max(float::max(size, b.max.norm()), b.min.norm()))
 }
 
 // The box larger on every side by the relative tolerance times the norm of its size.
-#[tactic(auto, unfolding(crate::specs::Boxes::grown))]
+#[tactic(auto, unfolding(crate::specs::MeshBoxes::grown))]
 fn grown(b: BoundingBox) -> BoundingBox
-    ensures { result ≡ Boxes.grown b }
+    ensures { result ≡ MeshBoxes.grown b }
 {
     b.expanded(geom::REL_TOL * b.size().norm())
 }
 
 // The same from the mesh's coordinates.
-#[tactic(auto, unfolding(crate::specs::Boxes::prepare))]
+#[tactic(auto, unfolding(crate::specs::MeshBoxes::prepare))]
 pub fn prepare(coords: &[f64]) -> Bounds
-    ensures { result ≡ Boxes.prepare coords.now }
+    ensures { result ≡ MeshBoxes.prepare coords.now }
 {
     let b = mesh_box(coords);
     Bounds {

@@ -5,11 +5,12 @@
 pub mod boxes;
 pub mod triangles;
 
-ghost use Rattle.std.specs.Prelude.{◌≡◌, ◌-◌, ◌*◌, length};
+ghost use Rattle.std.specs.Prelude.{◌≡◌};
 ghost use Rattle.refusal.specs.Verdicts.{answered};
-ghost use Rattle.mesh_questions.specs.Accepted.{Accepted};
-ghost use Rattle.mesh_questions.specs.Questions.{ask_mesh};
+ghost use Rattle.mesh_questions.specs.steps.Accepted.{Accepted};
+ghost use Rattle.mesh_questions.specs.MeshQuestions.{ask_mesh};
 ghost use Rattle.mesh.specs.Mesh as Meshes;
+ghost use Rattle.mesh.specs.WorkPlaces as WorkPlaces;
 
 use crate::triangles::sides;
 use mesh_questions::Mesh;
@@ -57,15 +58,15 @@ pub struct AcceptedMesh<'a> {
 
 impl<'a> Model for AcceptedMesh<'a> {
     ghost use Rattle.std.specs.Prelude.{◌≡◌};
-    ghost use Rattle.mesh_questions.specs.Accepted.{Accepted};
+    ghost use Rattle.mesh_questions.specs.steps.Accepted.{Accepted};
     ghost use Rattle.mesh_questions.specs.Mesh.{Mesh, mesh};
-    ghost use Rattle.mesh.specs.Triangles as Triangles;
+    ghost use Rattle.mesh.specs.steps.Fans as Fans;
 
     ghost Value = { Mesh };
 
     ghost view = { λ m. mesh m.coords.now m.corners.now m.ends.now };
 
-    ghost invariant = { λ m. Accepted m.coords.now m.corners.now m.ends.now × (m.sides ≡ Triangles.sides m.ends.now) };
+    ghost invariant = { λ m. Accepted m.coords.now m.corners.now m.ends.now × (m.sides ≡ Fans.sides m.ends.now) };
 }
 
 impl<'a> AcceptedMesh<'a> {
@@ -84,9 +85,22 @@ impl<'a> AcceptedMesh<'a> {
 
     // How many triangles there are.
     pub fn triangle_count(&self) -> usize
-        ensures count { result ≡ length self.now.corners - 2 * length self.now.ends }
+        ensures count { result ≡ Meshes.triangle_count self.now }
         ensures accepted { Accepted self.now.coords self.now.corners self.now.ends }
     {
         self.corners.len() - 2 * self.ends.len()
+    }
+}
+
+// Questions 1 to 6: a mesh, and a work place for each corner.
+#[tactic(auto, unfolding(crate::specs::WorkPlaces::ask_room))]
+pub fn ask_room<'a>(mesh: &Mesh<'a>, work: usize) -> Result<AcceptedMesh<'a>, Refusal>
+    ensures { result ≡ answered (WorkPlaces.ask_room mesh.now work) mesh.now }
+{
+    let accepted = AcceptedMesh::accept(mesh)?;
+    if accepted.corners.len() <= work {
+        Ok(accepted)
+    } else {
+        Err(Refusal::Room)
     }
 }

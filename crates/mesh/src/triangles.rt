@@ -1,8 +1,11 @@
-// Triangle t of a mesh: the t-th of the fans of its faces. The definitions are in specs/Triangles.antt.
+// Triangle t of a mesh: the t-th of the fans of its faces. The definitions are in specs/Triangles.antt, and
+// in specs/steps/Fans.antt (where triangle t is found).
 ghost use Rattle.std.specs.Prelude.{◌≡◌, ◌+◌, ◌-◌, ◌*◌, ◌≤◌, ◌<◌, length, get_or};
-ghost use Rattle.mesh_questions.specs.Accepted.{Fanned};
-ghost use Rattle.mesh.specs.Boxes as Boxes;
+ghost use Rattle.mesh_questions.specs.steps.Accepted.{Fanned};
+ghost use Rattle.mesh.specs.steps.TriangleCorners as TriangleCorners;
 ghost use Rattle.mesh.specs.Mesh as Mesh;
+ghost use Rattle.mesh.specs.steps.Items as Items;
+ghost use Rattle.mesh.specs.steps.Fans as Fans;
 ghost use Rattle.mesh.specs.Triangles as Triangles;
 
 use crate::{AcceptedMesh, Sides, Triangle};
@@ -10,7 +13,7 @@ use crate::{AcceptedMesh, Sides, Triangle};
 // Whether every face has this many corners. A loop: each face is compared with where the one before it ends.
 fn equal_faces(sides: usize, ends: &[u32]) -> bool
     requires { sides ≤ 4 }
-    ensures { result ≡ Triangles.equal_faces sides 0 ends.now }
+    ensures { result ≡ Fans.equal_faces sides 0 ends.now }
 {
     let mut start = 0;
     for end in ends {
@@ -24,9 +27,9 @@ fn equal_faces(sides: usize, ends: &[u32]) -> bool
 }
 
 // Whether all faces have three corners, or four: with it `triangle` is quick.
-#[tactic(auto, unfolding(crate::specs::Triangles::sides))]
+#[tactic(auto, unfolding(crate::specs::steps::Fans::sides))]
 pub fn sides(ends: &[u32]) -> Sides
-    ensures { result ≡ Triangles.sides ends.now }
+    ensures { result ≡ Fans.sides ends.now }
 {
     if equal_faces(3, ends) {
         return Sides::Three;
@@ -41,7 +44,7 @@ pub fn sides(ends: &[u32]) -> Sides
 // Where the corners of face `f` begin.
 fn start_of(ends: &[u32], f: usize) -> usize
     requires { f ≤ length ends.now }
-    ensures { result ≡ Triangles.start_from 0 ends.now f }
+    ensures { result ≡ Fans.start_from 0 ends.now f }
 {
     if f == 0 {
         return 0;
@@ -53,8 +56,8 @@ fn start_of(ends: &[u32], f: usize) -> usize
 // beside where the face ends, and the library's `partition_point` gives the end alone. Half way by a sum, which fits:
 // there are at most 65,536 faces.
 fn search(ends: &[u32], t: usize) -> usize
-    requires { (length ends.now ≤ 65536) × (t < 4294967296) × (t + 2 * length ends.now < Triangles.start_from 0 ends.now (length ends.now)) }
-    ensures { Triangles.InFace ends.now t result }
+    requires { (length ends.now ≤ 65536) × (t < 4294967296) × (t + 2 * length ends.now < Fans.start_from 0 ends.now (length ends.now)) }
+    ensures { Fans.InFace ends.now t result }
 {
     let mut lo = 0;
     let mut hi = ends.len();
@@ -79,8 +82,8 @@ fn guess(faces: usize, triangles: usize, t: usize) -> usize
 
 // The face of triangle `t`: the guess, or else a search.
 fn face_of(ends: &[u32], triangles: usize, t: usize) -> usize
-    requires { Triangles.Placed ends.now triangles t }
-    ensures { Triangles.InFace ends.now t result }
+    requires { Fans.Placed ends.now triangles t }
+    ensures { Fans.InFace ends.now t result }
 {
     let f = guess(ends.len(), triangles, t);
     if start_of(ends, f) <= t + 2 * f {
@@ -106,8 +109,8 @@ fn fan_triangle(corners: &[u32], first: usize, at: usize) -> Triangle
 // The face of triangle `t`, and where its corners begin: at once if all faces have three or four corners, at the first
 // guess if all have the same number, and else by a binary search.
 fn place_of(corners: &[u32], ends: &[u32], sides: Sides, t: usize) -> (usize, usize)
-    requires { Fanned corners.now ends.now × (sides ≡ Triangles.sides ends.now) × (t < length corners.now - 2 * length ends.now) }
-    ensures { Triangles.InFace ends.now t result.0 × (Triangles.start_from 0 ends.now result.0 ≡ result.1) }
+    requires { Fanned corners.now ends.now × (sides ≡ Fans.sides ends.now) × (t < length corners.now - 2 * length ends.now) }
+    ensures { Fans.InFace ends.now t result.0 × (Fans.start_from 0 ends.now result.0 ≡ result.1) }
 {
     match sides {
         Sides::Three => (t, 3 * t),
@@ -125,7 +128,7 @@ fn place_of(corners: &[u32], ends: &[u32], sides: Sides, t: usize) -> (usize, us
 // Triangle `t` of a mesh whose faces are all wide. The lists are lent one by one: it is promised of wide faces alone,
 // and an `AcceptedMesh` asks for finite coordinates besides.
 pub fn triangle(corners: &[u32], ends: &[u32], sides: Sides, t: usize) -> Triangle
-    requires { Fanned corners.now ends.now × (sides ≡ Triangles.sides ends.now) × (t < length corners.now - 2 * length ends.now) }
+    requires { Fanned corners.now ends.now × (sides ≡ Fans.sides ends.now) × (t < length corners.now - 2 * length ends.now) }
     ensures { result ≡ get_or (Triangles.triangles corners.now ends.now) t (Triangles.triangle 0 0 0) }
 {
     let (f, start) = place_of(corners, ends, sides, t);
@@ -135,10 +138,10 @@ pub fn triangle(corners: &[u32], ends: &[u32], sides: Sides, t: usize) -> Triang
 impl<'a> AcceptedMesh<'a> {
     // Triangle `t`. Its corners are finite vertices.
     pub fn triangle(&self, t: usize) -> Triangle
-        requires { t < length self.now.corners - 2 * length self.now.ends }
+        requires { Items.Item self.now t }
         ensures triangle { result ≡ Mesh.triangle_at self.now t }
-        ensures corners { Boxes.Corners self.now.coords result }
-        ensures finite { Boxes.Finite self.now.coords result }
+        ensures corners { TriangleCorners.Corners self.now.coords result }
+        ensures finite { TriangleCorners.Finite self.now.coords result }
     {
         triangle(self.corners, self.ends, self.sides, t)
     }

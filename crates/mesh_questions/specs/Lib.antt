@@ -1,6 +1,6 @@
--- The faces of a lent mesh and questions 1 to 5, what holds of a mesh that passes, and the laws of the loops that ask them.
+-- The definitions of crate `mesh_questions`; below steps what its inner functions promise, below laws their laws.
 pub mod Mesh
 pub mod Faces
-pub mod Questions
-pub mod QuestionLaws
-pub mod Accepted
+pub mod MeshQuestions
+pub mod steps
+pub mod laws

@@ -1,13 +1,14 @@
 // A lent mesh, and document 01's questions 1 to 5 of it. The definitions are in specs/Mesh.antt and
-// specs/Questions.antt.
+// specs/MeshQuestions.antt.
 #![tactic(auto)]
 
 ghost use Rattle.std.specs.Prelude.{◌≡◌, true, ◌/◌, ◌≤◌, ◌<◌, length, IfSome, IsErrAnd, MatchOption, Ok};
 ghost use Rattle.math.specs.Vectors.{points};
 ghost use Rattle.mesh_questions.specs.Faces.{faces};
 ghost use Rattle.mesh_questions.specs.Mesh as Meshes;
-ghost use Rattle.mesh_questions.specs.Questions as Questions;
-ghost use Rattle.mesh_questions.specs.QuestionLaws as QuestionLaws;
+ghost use Rattle.mesh_questions.specs.steps.Accepted as Accepted;
+ghost use Rattle.mesh_questions.specs.MeshQuestions as MeshQuestions;
+ghost use Rattle.mesh_questions.specs.steps.Finite as Finite;
 
 use math::Vec3;
 use refusal::Refusal;
@@ -37,29 +38,29 @@ pub struct Counts {
 }
 
 // Question 1: is the coordinate list a multiple of 3 long, with at most 65,536 vertices?
-#[tactic(auto, unfolding(crate::specs::Questions::whole_vertices))]
+#[tactic(auto, unfolding(crate::specs::MeshQuestions::whole_vertices))]
 fn whole_vertices(coords: &[f64]) -> bool
-    ensures { result ≡ Questions.whole_vertices coords.now }
+    ensures { result ≡ MeshQuestions.whole_vertices coords.now }
 {
     (coords.len() % 3 == 0) & (coords.len() / 3 <= 65536)
 }
 
 // Whether the face ends never fall, the last being the corner count.
 fn ends_fit(corners: usize, ends: &[u32]) -> bool
-    ensures { result ≡ Questions.ends_fit 0 corners ends.now }
+    ensures { result ≡ MeshQuestions.ends_fit 0 corners ends.now }
 {
     ends.is_sorted() && ends.last().copied().unwrap_or(0) as usize == corners
 }
 
-// Question 2: are there at most 65,536 faces and as many corners as the limit, and do the face ends fit?
-#[tactic(auto, unfolding(crate::specs::Questions::faces_fit))]
-fn faces_fit(limit: usize, corners: &[u32], ends: &[u32]) -> bool
-    ensures { result ≡ Questions.faces_fit limit corners.now ends.now }
+// Question 2: are there at most 65,536 faces and 262,144 corners, and do the face ends fit?
+#[tactic(auto, unfolding(crate::specs::MeshQuestions::faces_fit))]
+fn faces_fit(corners: &[u32], ends: &[u32]) -> bool
+    ensures { result ≡ MeshQuestions.faces_fit corners.now ends.now }
 {
     if ends.len() > 65536 {
         return false;
     }
-    if corners.len() > limit {
+    if corners.len() > 262144 {
         return false;
     }
     ends_fit(corners.len(), ends)
@@ -67,15 +68,15 @@ fn faces_fit(limit: usize, corners: &[u32], ends: &[u32]) -> bool
 
 // Whether each corner of a face is a vertex.
 fn all_below(vertices: usize, face: &[u32]) -> bool
-    ensures { result ≡ Questions.all_below vertices face.now }
+    ensures { result ≡ MeshQuestions.all_below vertices face.now }
 {
     face.iter().all(|corner| (*corner as usize) < vertices)
 }
 
 // Questions 3 and 4 of one face.
-#[tactic(auto, unfolding(crate::specs::Questions::ask_face))]
+#[tactic(auto, unfolding(crate::specs::MeshQuestions::ask_face))]
 fn ask_face(vertices: usize, number: u32, face: &[u32]) -> Result<(), Refusal>
-    ensures { result ≡ Questions.ask_face vertices number face.now }
+    ensures { result ≡ MeshQuestions.ask_face vertices number face.now }
 {
     if face.len() < 3 {
         return Err(Refusal::ShortFace(number));
@@ -89,10 +90,10 @@ fn ask_face(vertices: usize, number: u32, face: &[u32]) -> Result<(), Refusal>
 // Questions 3 and 4, face by face. The start is carried by hand: an iterator of the faces would have to carry that the
 // ends fit, which no type of a lent mesh says. A face's number is cut by `as`, with no `try_from`: there are 65,536
 // faces at most, so no error could be told.
-#[tactic(auto, using(crate::specs::QuestionLaws::ends_fit_step, crate::specs::QuestionLaws::ends_fit_le))]
+#[tactic(auto, using(crate::specs::laws::QuestionLaws::ends_fit_step, crate::specs::laws::QuestionLaws::ends_fit_le))]
 fn ask_faces(vertices: usize, corners: &[u32], ends: &[u32]) -> Result<(), Refusal>
-    requires { (length ends.now ≤ 65536) × (Questions.ends_fit 0 (length corners.now) ends.now ≡ true) }
-    ensures { result ≡ Questions.ask_faces vertices 0 (faces corners.now ends.now) }
+    requires { (length ends.now ≤ 65536) × (MeshQuestions.ends_fit 0 (length corners.now) ends.now ≡ true) }
+    ensures { result ≡ MeshQuestions.ask_faces vertices 0 (faces corners.now ends.now) }
 {
     let mut start = 0;
     for (i, end) in ends.iter().enumerate() {
@@ -105,7 +106,7 @@ fn ask_faces(vertices: usize, corners: &[u32], ends: &[u32]) -> Result<(), Refus
 
 // The number of the first point of a list that is not finite.
 pub fn first_not_finite(list: &[f64]) -> Option<usize>
-    ensures first { result ≡ QuestionLaws.first_not_finite 0 (points list.now) }
+    ensures first { result ≡ Finite.first_not_finite 0 (points list.now) }
     ensures within { IfSome result (λ i. i < length list.now / 3) }
 {
     let (points, _) = list.as_chunks::<3>();
@@ -117,7 +118,7 @@ pub fn first_not_finite(list: &[f64]) -> Option<usize>
 pub fn ask_finite<F: FnOnce(u32) -> Refusal>(list: &[f64], refusal: F) -> Result<(), Refusal>
     requires few { length list.now ≤ 196608 }
     requires callable { F.IsAlwaysCallable refusal }
-    ensures { MatchOption (QuestionLaws.first_not_finite 0 (points list.now)) (result ≡ Ok tt) (λ i. IsErrAnd result (F.post refusal i)) }
+    ensures { MatchOption (Finite.first_not_finite 0 (points list.now)) (result ≡ Ok tt) (λ i. IsErrAnd result (F.post refusal i)) }
 {
     first_not_finite(list).map_or(Ok(()), |i| Err(refusal(i as u32)))
 }
@@ -125,42 +126,42 @@ pub fn ask_finite<F: FnOnce(u32) -> Refusal>(list: &[f64], refusal: F) -> Result
 // Question 5: is each coordinate finite?
 pub fn ask_vertices(coords: &[f64]) -> Result<(), Refusal>
     requires { length coords.now ≤ 196608 }
-    ensures { result ≡ Questions.ask_vertices 0 (points coords.now) }
+    ensures { result ≡ MeshQuestions.ask_vertices 0 (points coords.now) }
 {
     ask_finite(coords, Refusal::NotFinite)
 }
 
 impl<'a> Mesh<'a> {
-    // Questions 1 and 2, with this many corners at most.
-    #[tactic(auto, unfolding(crate::specs::Questions::ask_lengths))]
-    pub fn ask_lengths(&self, limit: usize) -> Result<(), Refusal>
-        ensures { result ≡ Questions.ask_lengths limit self.now.coords self.now.corners self.now.ends }
+    // Questions 1 and 2.
+    #[tactic(auto, unfolding(crate::specs::MeshQuestions::ask_lengths))]
+    pub fn ask_lengths(&self) -> Result<(), Refusal>
+        ensures { result ≡ MeshQuestions.ask_lengths self.now.coords self.now.corners self.now.ends }
     {
         if !whole_vertices(self.coords) {
             return Err(Refusal::Coordinates);
         }
-        if !faces_fit(limit, self.corners, self.ends) {
+        if !faces_fit(self.corners, self.ends) {
             return Err(Refusal::Faces);
         }
         Ok(())
     }
 
     // Questions 3 to 5, of a mesh that passes 1 and 2.
-    #[tactic(auto, unfolding(crate::specs::Questions::ask_parts))]
+    #[tactic(auto, unfolding(crate::specs::MeshQuestions::ask_parts))]
     pub fn ask_parts(&self) -> Result<(), Refusal>
-        requires { Questions.Lengths self.now.coords self.now.corners self.now.ends }
-        ensures { result ≡ Questions.ask_parts self.now.coords self.now.corners self.now.ends }
+        requires { Accepted.Lengths self.now.coords self.now.corners self.now.ends }
+        ensures { result ≡ MeshQuestions.ask_parts self.now.coords self.now.corners self.now.ends }
     {
         ask_faces(self.coords.len() / 3, self.corners, self.ends)?;
         ask_vertices(self.coords)
     }
 
     // Questions 1 to 5: the counts of the mesh, or the refusal.
-    #[tactic(auto, unfolding(crate::specs::Questions::mesh_asked, crate::specs::Questions::ask_mesh, crate::specs::Questions::counts))]
+    #[tactic(auto, unfolding(crate::specs::steps::Accepted::mesh_asked, crate::specs::MeshQuestions::ask_mesh, crate::specs::steps::Accepted::counts))]
     pub fn ask(&self) -> Result<Counts, Refusal>
-        ensures { result ≡ Questions.mesh_asked self.now.coords self.now.corners self.now.ends }
+        ensures { result ≡ Accepted.mesh_asked self.now.coords self.now.corners self.now.ends }
     {
-        self.ask_lengths(262144)?;
+        self.ask_lengths()?;
         self.ask_parts()?;
         Ok(Counts {
             vertices: self.coords.len() / 3,

@@ -1,11 +1,6 @@
--- The definitions of crate `polyhedron`, and demand 3.
-pub mod Lists
-pub mod ListLaws
+-- The definitions of crate `polyhedron`, and the statement of demand 3; below steps what its inner functions promise, below laws their laws.
+pub mod PointLists
 pub mod Rewritten
 pub mod Demand3
-pub mod ReorderedNumbers
-pub mod RewrittenParts
-pub mod RewrittenAccepted
-pub mod RewrittenScan
-pub mod Demand3Theorem
-pub mod Worked
+pub mod steps
+pub mod laws

@@ -4,7 +4,7 @@ use Rattle.std.specs.Prelude.{ℕ, ◌+◌, ◌/◌, ◌<◌, ◌≡◌, length}
 use mathlib.Core.List.{List, [], ◌∷◌, map, flatten}
 use Rattle.lent.specs.Reordered.{Reordered}
 use Rattle.mesh_questions.specs.Faces.{faces}
-use Rattle.mesh.specs.Boxes.{vertex}
+use Rattle.mesh.specs.MeshBoxes.{vertex}
 use Rattle.mesh.specs.Mesh.{Mesh}
 
 -- how many vertices a mesh has

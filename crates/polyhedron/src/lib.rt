@@ -1,5 +1,6 @@
 // Answering a list of points over a lent tree: document 01's questions 1 to 9, and the answers. The definitions are in
-// specs/Lists.antt; demand 3, which rests on them, is in specs/Demand3.antt.
+// specs/PointLists.antt; demand 3, which rests on them, is in specs/Demand3.antt.
 #![tactic(auto)]
 
 pub mod lists;
+pub mod points;

@@ -1,2 +1,2 @@
 -- The definitions of crate `primitives`.
-pub mod Questions
+pub mod ShapeQuestions

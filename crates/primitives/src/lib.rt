@@ -1,9 +1,9 @@
 // The question whether a point lies in a shape that is no mesh: document 01's questions 11, 10 and 9, and then
-// the shape's rule. The definitions are in specs/Questions.antt.
+// the shape's rule. The definitions are in specs/ShapeQuestions.antt.
 #![tactic(auto)]
 
 ghost use Rattle.std.specs.Prelude.{◌≡◌, ◌<◌, IfSome};
-ghost use Rattle.primitives.specs.Questions as Questions;
+ghost use Rattle.primitives.specs.ShapeQuestions as ShapeQuestions;
 
 use math::Vec3;
 use refusal::{Refusal, returned};
@@ -12,14 +12,14 @@ use shapes::Shape;
 // What a C function returns for an answer: 0 outside, 1 inside, or the refusal's number × 1,000,000 plus its
 // place.
 pub fn value(answer: Result<bool, Refusal>) -> u64
-    ensures { result ≡ Questions.value answer }
+    ensures { result ≡ ShapeQuestions.value answer }
 {
     returned(answer.map(|inside| u64::from(inside)))
 }
 
 // The numbers of an entry of the shape's list, for the shapes that question 11 asks.
 fn entry_size(shape: Shape) -> Option<usize>
-    ensures size { result ≡ Questions.entry_size shape }
+    ensures size { result ≡ ShapeQuestions.entry_size shape }
     ensures above_zero { IfSome result (λ size. 0 < size) }
 {
     match shape {
@@ -38,24 +38,24 @@ fn entry_size(shape: Shape) -> Option<usize>
 }
 
 // Question 11: has a polygon, wire or multi-box whole entries, at most 4,096?
-#[tactic(auto, unfolding(crate::specs::Questions::whole_entries, crate::specs::Questions::whole))]
+#[tactic(auto, unfolding(crate::specs::ShapeQuestions::whole_entries, crate::specs::ShapeQuestions::whole))]
 fn whole_entries(shape: Shape, list: &[f64]) -> bool
-    ensures { result ≡ Questions.whole_entries shape list.now }
+    ensures { result ≡ ShapeQuestions.whole_entries shape list.now }
 {
     entry_size(shape).is_none_or(|size| (list.len() % size == 0) & (list.len() / size <= 4096))
 }
 
 // Whether every number of the list is finite.
 fn all_finite(list: &[f64]) -> bool
-    ensures { result ≡ Questions.all_finite list.now }
+    ensures { result ≡ ShapeQuestions.all_finite list.now }
 {
     list.iter().all(|x| float::is_finite(*x))
 }
 
 // Question 10: is each number of the shape finite?
-#[tactic(auto, unfolding(crate::specs::Questions::finite_numbers))]
+#[tactic(auto, unfolding(crate::specs::ShapeQuestions::finite_numbers))]
 fn finite_numbers(shape: Shape, list: &[f64]) -> bool
-    ensures { result ≡ Questions.finite_numbers shape list.now }
+    ensures { result ≡ ShapeQuestions.finite_numbers shape list.now }
 {
     match shape {
         Shape::Box { start, stop } | Shape::CylindricalBox { start, stop } => {
@@ -97,9 +97,9 @@ fn finite_numbers(shape: Shape, list: &[f64]) -> bool
 }
 
 // Whether the point lies in the shape, after questions 11, 10 and 9.
-#[tactic(auto, unfolding(crate::specs::Questions::shape_answer, crate::specs::Questions::finite_point))]
+#[tactic(auto, unfolding(crate::specs::ShapeQuestions::shape_answer, crate::specs::ShapeQuestions::shape_verdict, crate::specs::ShapeQuestions::finite_point))]
 pub fn contains(shape: Shape, list: &[f64], p: Vec3) -> Result<bool, Refusal>
-    ensures { result ≡ Questions.shape_answer shape list.now p }
+    ensures { result ≡ ShapeQuestions.shape_answer shape list.now p }
 {
     if !whole_entries(shape, list) {
         return Err(Refusal::Entries);

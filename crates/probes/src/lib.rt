@@ -2,11 +2,12 @@
 #![tactic(auto)]
 
 pub mod meshes;
+pub mod vectors;
 
 ghost use Rattle.std.specs.Prelude.{◌≡◌, ◌*◌, ◌%◌, ◌^◌, ◌⊎◌};
 ghost use Rattle.float.specs.Rules as Rules;
 ghost use Rattle.float.specs.TotalOrder as TotalOrder;
-ghost use Rattle.sqrt.specs.Guess as Guess;
+ghost use Rattle.sqrt.specs.steps.Guess as Guess;
 ghost use Rattle.sqrt.specs.Root as Root;
 
 #[unsafe(no_mangle)]

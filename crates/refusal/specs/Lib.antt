@@ -1,5 +1,4 @@
--- The definitions of crate `refusal`, and the laws that other crates cite.
+-- The definitions of crate `refusal`; below laws their laws.
 pub mod Numbers
 pub mod Verdicts
-pub mod Places
-pub mod Returned
+pub mod laws

@@ -1,6 +1,5 @@
 -- Document 01's number and place of each refusal ('Answers, and the questions asked first'), and the number that a C function returns ('The desks' viewer ..').
-use Rattle.std.specs.Prelude.{◌≡◌, ℕ, ◌+◌, ◌*◌, ◌/◌, ◌%◌, ◌≤◌, ◌<◌}
-use Rattle.std.proofs.Common.{arith, lit≤}
+use Rattle.std.specs.Prelude.{ℕ, ◌+◌, ◌*◌}
 use Rattle.refusal.specs.declared.Refusal.{Refusal}
 use Rattle.refusal.specs.declared.Refusal.TheVariants.{Coordinates, Faces, ShortFace, CornerOut, NotFinite, Room, Tree, PointList, Point, ShapeNumber, Entries, Line}
 
@@ -37,25 +36,3 @@ place (Line line) = line
 -- the number × 1,000,000 plus the place
 abbrev pub code : Refusal → ℕ
 code r = number r * 1000000 + place r
-
--- There are twelve questions.
-pub number_le : (r : Refusal) → number r ≤ 12
-number_le Coordinates = lit≤ tt
-number_le Faces = lit≤ tt
-number_le (ShortFace face) = lit≤ tt
-number_le (CornerOut face) = lit≤ tt
-number_le (NotFinite vertex) = lit≤ tt
-number_le Room = lit≤ tt
-number_le Tree = lit≤ tt
-number_le PointList = lit≤ tt
-number_le (Point point) = lit≤ tt
-number_le ShapeNumber = lit≤ tt
-number_le Entries = lit≤ tt
-number_le (Line line) = lit≤ tt
-
--- A returned number is read back as long as the place is below a million.
-pub code_number : (r : Refusal) → place r < 1000000 → code r / 1000000 ≡ number r
-code_number r h = omega arith
-
-pub code_place : (r : Refusal) → place r < 1000000 → code r % 1000000 ≡ place r
-code_place r h = omega arith

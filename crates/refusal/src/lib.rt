@@ -71,7 +71,7 @@ impl Refusal {
     }
 
     // What a C function returns for it.
-    #[tactic(auto, using(crate::specs::Numbers::number_le))]
+    #[tactic(auto, using(crate::specs::laws::NumberLaws::number_between))]
     pub fn code(self) -> u64
         ensures { result ≡ Numbers.code self }
     {

@@ -1,4 +1,4 @@
--- The answers to points as bytes. Definitions only.
+-- The answers to points as bytes (document 01: 0 outside, 1 inside, 2 undecided). Definitions only.
 use Rattle.std.specs.Prelude.{ℕ}
 use Rattle.scan.specs.declared.votes.Answer.{Answer}
 use Rattle.scan.specs.declared.votes.Answer.TheVariants.{Outside, Inside, Undecided}

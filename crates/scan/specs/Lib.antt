@@ -1,9 +1,7 @@
--- The definitions of crate `scan`, and their laws.
+-- The definitions of crate `scan`; below steps what its inner functions promise, below laws their laws.
 pub mod Scan
 pub mod Answers
-pub mod ScanLaws
 pub mod Closest
 pub mod Rays
-pub mod RayLaws
-pub mod BoxLaws
-pub mod Slabs
+pub mod steps
+pub mod laws

@@ -13,19 +13,17 @@ use Rattle.scan.specs.declared.rays.RayHit.TheVariants.{Miss, Hit, Degenerate}
 
 -- ---- boxes
 
--- where the ray meets the nearer plane of a slab: o is the origin, inv one over the direction, lo and hi the planes, all on one axis
+-- where the ray meets a plane: o is the origin, inv one over the direction, all on one axis
+abbrev pub meets : Float → Float → Float → Float
+meets o inv plane = (plane ⊖ o) ⊗ inv
+
+-- where it meets the nearer plane of a slab, whose planes are at lo and hi
 unfoldable pub near : Float → Float → Float → Float → Float
-near o inv lo hi =
-    let a = (lo ⊖ o) ⊗ inv in
-    let c = (hi ⊖ o) ⊗ inv in
-    cond (le a c) a c
+near o inv lo hi = cond (le (meets o inv lo) (meets o inv hi)) (meets o inv lo) (meets o inv hi)
 
 -- and the farther one
 unfoldable pub far : Float → Float → Float → Float → Float
-far o inv lo hi =
-    let a = (lo ⊖ o) ⊗ inv in
-    let c = (hi ⊖ o) ⊗ inv in
-    cond (le a c) c a
+far o inv lo hi = cond (le (meets o inv lo) (meets o inv hi)) (meets o inv hi) (meets o inv lo)
 
 -- whether the ray from o meets the box: the last entry, from 0 on, is at most the first exit
 unfoldable pub ray_hits_box : Vec3 → Vec3 → BoundingBox → Bool

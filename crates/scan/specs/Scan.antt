@@ -6,10 +6,10 @@ use Rattle.float.specs.Arithmetic.{◌⊘◌, one}
 use Rattle.math.specs.declared.Vec3.{Vec3}
 use Rattle.math.specs.declared.BoundingBox.{BoundingBox}
 use Rattle.math.specs.Vectors.{vec, sub, norm}
-use Rattle.math.specs.Boxes.{contains, expanded}
+use Rattle.math.specs.BoundingBoxes.{contains, expanded}
 use Rattle.mesh.specs.declared.Triangle.{Triangle}
 use Rattle.mesh_questions.specs.Faces.{faces}
-use Rattle.mesh.specs.Boxes.{vertex, prepare}
+use Rattle.mesh.specs.MeshBoxes.{vertex, mesh_box, surface_eps, grown}
 use Rattle.mesh.specs.Mesh.{Mesh, triangle_at, own_box, all_triangles}
 use Rattle.edges.specs.Edges.{closed}
 use Rattle.scan.specs.Closest.{closest_on_triangle}
@@ -54,10 +54,6 @@ within coords eps p t =
 unfoldable pub touches : Mesh → Float → Vec3 → ℕ → Bool
 touches m eps p t = surface_passes eps p (own_box m t) && within m.coords eps p (triangle_at m t)
 
--- the triangles that touch the point, ascending
-unfoldable pub touching : Mesh → Float → Vec3 → List ℕ
-touching m eps p = which (touches m eps p) (all_triangles m)
-
 -- ---- the rays
 
 -- one over a direction, axis by axis
@@ -66,15 +62,15 @@ inverse d = vec (one ⊘ d.x) (one ⊘ d.y) (one ⊘ d.z)
 
 -- the ray walk's box test, for nodes and own boxes alike
 unfoldable pub ray_passes : Vec3 → Vec3 → BoundingBox → Bool
-ray_passes d p b = ray_hits_box p (inverse d) b
+ray_passes p d b = ray_hits_box p (inverse d) b
 
 -- the ray from p in direction d and a triangle
 unfoldable pub crossing : List Float → Vec3 → Vec3 → Triangle → RayHit
-crossing coords d p t = ray_triangle p d (vertex coords t.a) (vertex coords t.b) (vertex coords t.c)
+crossing coords p d t = ray_triangle p d (vertex coords t.a) (vertex coords t.b) (vertex coords t.c)
 
 -- what the ray from p in direction d finds at triangle t: Miss unless its own box passes
 unfoldable pub found : Mesh → Vec3 → Vec3 → ℕ → RayHit
-found m d p t = cond (ray_passes d p (own_box m t)) (crossing m.coords d p (triangle_at m t)) Miss
+found m p d t = cond (ray_passes p d (own_box m t)) (crossing m.coords p d (triangle_at m t)) Miss
 
 unfoldable pub is_hit : RayHit → Bool
 is_hit Miss = false
@@ -102,7 +98,7 @@ vote_over find list =
 
 -- the vote of a direction
 unfoldable pub vote : Mesh → Vec3 → Vec3 → Vote
-vote m p d = vote_over (found m d p) (all_triangles m)
+vote m p d = vote_over (found m p d) (all_triangles m)
 
 -- the votes with one more
 unfoldable pub counted : Votes → Vote → Votes
@@ -133,19 +129,41 @@ unfoldable pub votes : Mesh → Vec3 → Votes
 votes m p = votes_from (vote m p) (record { odd = 0; even = 0 }) directions
 
 -- more odd votes are inside, more even outside, equal undecided
-unfoldable pub verdict : Votes → ℕ
-verdict v = cond (ltb v.even v.odd) inside (cond (ltb v.odd v.even) outside undecided)
+unfoldable pub majority : Votes → ℕ
+majority v = cond (ltb v.even v.odd) inside (cond (ltb v.odd v.even) outside undecided)
 
 -- ---- the scan
 
--- the answer to a point, seen by every triangle
-unfoldable pub plain_scan : Mesh → Vec3 → ℕ
-plain_scan m p =
-    let ready = prepare m.coords in
+-- which step of the mesh rule speaks
+pub data Rule : Type 0 where
+  -- the point is outside the grown box
+  outside_box : Rule
+  -- a triangle touches the point
+  on_surface : Rule
+  -- the mesh is not closed
+  open_mesh : Rule
+  -- the directions vote
+  by_votes : Votes → Rule
+
+-- the step that speaks of a point, seen by every triangle
+unfoldable pub scan_rule : Mesh → Vec3 → Rule
+scan_rule m p =
+    let box = mesh_box m.coords in
     cond
-    (not (contains ready.grown p))
-    outside
+    (not (contains (grown box) p))
+    outside_box
     (cond
-    (ltb 0 (length (touching m ready.eps p)))
-    inside
-    (cond (not (closed (faces m.corners m.ends))) outside (verdict (votes m p))))
+    (some (touches m (surface_eps box) p) (all_triangles m))
+    on_surface
+    (cond (not (closed (faces m.corners m.ends))) open_mesh (by_votes (votes m p))))
+
+-- what that step answers
+unfoldable pub rule_answer : Rule → ℕ
+rule_answer outside_box = outside
+rule_answer on_surface = inside
+rule_answer open_mesh = outside
+rule_answer (by_votes v) = majority v
+
+-- the answer to a point
+unfoldable pub plain_scan : Mesh → Vec3 → ℕ
+plain_scan m p = rule_answer (scan_rule m p)

@@ -1,9 +1,9 @@
 // How a ray meets boxes and triangles: csx's `ray_hits_box` and `ray_triangle`. The definitions are in
 // specs/Rays.antt.
 ghost use Rattle.std.specs.Prelude.{◌≡◌};
-ghost use Rattle.float.specs.Order.{Number};
+ghost use Rattle.float.specs.laws.Order.{Number};
 ghost use Rattle.scan.specs.Rays as Rays;
-ghost use Rattle.scan.specs.Slabs as Slabs;
+ghost use Rattle.scan.specs.steps.Slabs as Slabs;
 
 use float::higher;
 use math::{BoundingBox, CornerPoints, Vec3};
@@ -26,22 +26,28 @@ pub enum RayHit {
     Degenerate,
 }
 
-// Where the ray enters a slab: the planes are at `lo` and `hi`, all on one axis.
-#[tactic(auto, unfolding(crate::specs::Slabs::entry))]
-fn entry(o: f64, inv: f64, lo: f64, hi: f64) -> f64
-    ensures { result ≡ Slabs.entry o inv lo hi }
+// Where the ray meets a plane: `o` is the origin and `inv` one over the direction, all on one axis.
+#[inline(always)]
+pub fn meets(o: f64, inv: f64, plane: f64) -> f64
+    ensures { result ≡ Rays.meets o inv plane }
 {
-    let plane = if 0.0 < inv { lo } else { hi };
     (plane - o) * inv
 }
 
+// Where the ray enters a slab: the planes are at `lo` and `hi`.
+#[tactic(auto, unfolding(crate::specs::steps::Slabs::entry))]
+fn entry(o: f64, inv: f64, lo: f64, hi: f64) -> f64
+    ensures { result ≡ Slabs.entry o inv lo hi }
+{
+    meets(o, inv, if 0.0 < inv { lo } else { hi })
+}
+
 // Where the ray leaves a slab, negated. It is not `entry` with `-inv`: where `inv` is 0 that chooses the other plane.
-#[tactic(auto, unfolding(crate::specs::Slabs::minus_exit))]
+#[tactic(auto, unfolding(crate::specs::steps::Slabs::minus_exit))]
 fn minus_exit(o: f64, inv: f64, lo: f64, hi: f64) -> f64
     ensures { result ≡ Slabs.minus_exit o inv lo hi }
 {
-    let plane = if 0.0 < inv { hi } else { lo };
-    (plane - o) * -inv
+    meets(o, -inv, if 0.0 < inv { hi } else { lo })
 }
 
 // Whether the last of the entries x, y and z into slabs, from 0 on, is at most the first exit; the exits u, v and w
@@ -81,7 +87,7 @@ fn parallel(det: f64, e1: Vec3, e2: Vec3) -> bool
 
 // The ray from `o` in direction `d` and a triangle. Of csx's tests that lead to a miss the first takes two
 // roots; here it comes after the others.
-#[tactic(auto, unfolding(crate::specs::Rays::ray_triangle, crate::specs::Rays::hit_at), using(crate::specs::RayLaws::miss_anyway))]
+#[tactic(auto, unfolding(crate::specs::Rays::ray_triangle, crate::specs::Rays::hit_at), using(crate::specs::laws::RayLaws::miss_anyway))]
 pub fn ray_triangle(o: Vec3, d: Vec3, t: CornerPoints) -> RayHit
     ensures { result ≡ Rays.ray_triangle o d t.a t.b t.c }
 {

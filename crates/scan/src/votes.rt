@@ -2,7 +2,7 @@
 ghost use Rattle.std.specs.Prelude.{◌≡◌, ◌<◌};
 ghost use Rattle.scan.specs.Answers as Answers;
 ghost use Rattle.scan.specs.Scan as Scan;
-ghost use Rattle.scan.specs.ScanLaws as ScanLaws;
+ghost use Rattle.scan.specs.steps.VoteSteps as VoteSteps;
 
 use crate::rays::RayHit;
 
@@ -30,9 +30,9 @@ pub struct Votes {
 }
 
 // The vote so far, with what is found at one more triangle.
-#[tactic(auto, unfolding(crate::specs::ScanLaws::with_found))]
+#[tactic(auto, unfolding(crate::specs::steps::VoteSteps::with_found))]
 pub fn with_found(vote: Option<Parity>, hit: RayHit) -> Option<Parity>
-    ensures { result ≡ ScanLaws.with_found vote hit }
+    ensures { result ≡ VoteSteps.with_found vote hit }
 {
     let parity = vote?;
     match hit {
@@ -84,9 +84,9 @@ impl Votes {
     }
 
     // More odd votes are inside, more even outside, equal undecided.
-    #[tactic(auto, unfolding(crate::specs::Scan::verdict))]
-    pub fn verdict(self) -> Answer
-        ensures { Answers.byte result ≡ Scan.verdict self }
+    #[tactic(auto, unfolding(crate::specs::Scan::majority))]
+    pub fn majority(self) -> Answer
+        ensures { Answers.byte result ≡ Scan.majority self }
     {
         if self.even < self.odd {
             return Answer::Inside;

@@ -1,6 +1,7 @@
--- The definitions of crate `shapes`.
+-- The definitions of crate `shapes`; below laws their laws.
 pub mod Shapes
-pub mod Boxes
+pub mod BoxShapes
 pub mod Round
 pub mod Polylines
 pub mod Planes
+pub mod laws

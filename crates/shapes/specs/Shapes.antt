@@ -1,7 +1,7 @@
 -- Which rule answers for which shape: csx's `Shape::contains_local` in Cartesian coordinates, and for a box in cylindrical ones its native test (mod.rs).
 -- Definitions only.
 use Rattle.std.specs.Prelude.{Bool, List, Float}
-use Rattle.shapes.specs.Boxes.{inside_box, inside_cylindrical_box, inside_multi_box}
+use Rattle.shapes.specs.BoxShapes.{inside_box, inside_cylindrical_box, inside_multi_box}
 use Rattle.shapes.specs.Round.{inside_sphere, inside_spherical_shell, inside_cylinder, inside_cylindrical_shell}
 use Rattle.shapes.specs.Polylines.{inside_curve, inside_wire, inside_point}
 use Rattle.shapes.specs.Planes.{inside_polygon, inside_lin_poly}

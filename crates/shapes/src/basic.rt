@@ -1,15 +1,15 @@
 // Membership of boxes, spheres, cylinders and their shells, from csx's basic.rs. The definitions are in
 // specs/.
 ghost use Rattle.std.specs.Prelude.{◌≡◌};
-ghost use Rattle.shapes.specs.Boxes as Boxes;
+ghost use Rattle.shapes.specs.BoxShapes as BoxShapes;
 ghost use Rattle.shapes.specs.Round as Round;
 
 use math::Vec3;
 
 // Whether `p` lies in the box with opposite corners `a` and `b`; its faces count as inside.
-#[tactic(auto, unfolding(crate::specs::Boxes::inside_box))]
+#[tactic(auto, unfolding(crate::specs::BoxShapes::inside_box))]
 pub fn inside_box(a: Vec3, b: Vec3, p: Vec3) -> bool
-    ensures { result ≡ Boxes.inside_box a b p }
+    ensures { result ≡ BoxShapes.inside_box a b p }
 {
     if !geom::in_range(p.x, a.x, b.x) {
         return false;
@@ -22,9 +22,9 @@ pub fn inside_box(a: Vec3, b: Vec3, p: Vec3) -> bool
 
 // The same in cylindrical coordinates, x the radius, y the angle, z the height: the radius is compared
 // as given, the angle modulo full turns. On the axis every angle is valid.
-#[tactic(auto, unfolding(crate::specs::Boxes::inside_cylindrical_box))]
+#[tactic(auto, unfolding(crate::specs::BoxShapes::inside_cylindrical_box))]
 pub fn inside_cylindrical_box(a: Vec3, b: Vec3, p: Vec3) -> bool
-    ensures { result ≡ Boxes.inside_cylindrical_box a b p }
+    ensures { result ≡ BoxShapes.inside_cylindrical_box a b p }
 {
     if !geom::in_range(p.z, a.z, b.z) {
         return false;
@@ -40,7 +40,7 @@ pub fn inside_cylindrical_box(a: Vec3, b: Vec3, p: Vec3) -> bool
 
 // Whether `p` lies in one of the boxes; the list has the two corners of each.
 pub fn inside_multi_box(boxes: &[f64], p: Vec3) -> bool
-    ensures { result ≡ Boxes.inside_multi_box boxes.now p }
+    ensures { result ≡ BoxShapes.inside_multi_box boxes.now p }
 {
     let (boxes, _) = boxes.as_chunks::<6>();
     boxes

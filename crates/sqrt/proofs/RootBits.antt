@@ -13,9 +13,9 @@ use lib.Count.{count_leading_zeros, leading_top}
 use lib.Ieee.{Float, inf, binary64, odd, lt, fits, is_nan, to_bits, of_bits, of_fields}
 use lib.Ieee.Bits.{of_bits-to_bits}
 use Rattle.float.specs.Rules.{zero64}
-use Rattle.float.specs.Order.{lt_number_right}
-use Rattle.float.specs.OrderTheorems.{sign_bit_lem}
-use Rattle.float.specs.OrderTheorems.Pattern.{magnitude, rest, finite_pattern, infinite_pattern, quanta_pattern, magnitude_subnormal}
+use Rattle.float.specs.laws.Order.{lt_number_right}
+use Rattle.float.specs.laws.OrderTheorems.{sign_bit_lem}
+use Rattle.float.specs.laws.OrderTheorems.Pattern.{magnitude, rest, finite_pattern, infinite_pattern, quanta_pattern, magnitude_subnormal}
 use Rattle.sqrt.specs.Root.{nearest_root, root_of, root}
 use Rattle.sqrt.proofs.RootTheorem.Squares.{nearest_low, nearest_high, nearest_root_nearest}
 use Rattle.sqrt.proofs.RootTheorem.Cases.{root_positive, positive_sign}

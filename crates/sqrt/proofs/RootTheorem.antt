@@ -14,7 +14,7 @@ use Rattle.std.specs.Float.Ieee.Bits.{is_true, is_false}
 use Rattle.std.specs.Float.Ieee.Scale.{finite}
 use Rattle.float.specs.Rules.{zero64}
 use Rattle.sqrt.specs.Root.{root, IsNearestRoot}
-use Rattle.float.specs.Order.{Number, Alike, is_zero, finite_number, alike_eq, lt_irrefl, lt_trans, lt_le_trans, eq_le, eq_sym}
+use Rattle.float.specs.laws.Order.{Number, Alike, is_zero, finite_number, alike_eq, lt_irrefl, lt_trans, lt_le_trans, eq_le, eq_sym}
 use Cases.{root_none, root_at_zero}
 use Nearest.{nearest_root_lem}
 use Monotone
@@ -39,7 +39,9 @@ root_zero s = refl
 
 -- a negative number has none
 pub root_negative : (x : Float) → T (lt x zero64) → root x ≡ nan
-root_negative x l = root_none x (is_false (lt zero64 x) (not_T (lt zero64 x) (λ h. lt_irrefl x (lt_trans x zero64 x l h)))) (is_false (eq x zero64) (not_T (eq x zero64) (λ h. lt_irrefl x (lt_le_trans x zero64 x l (eq_le zero64 x (eq_sym x zero64 h))))))
+root_negative x l =
+    root_none x (is_false (lt zero64 x) (not_T (lt zero64 x) (λ h. lt_irrefl x (lt_trans x zero64 x l h))))
+    (is_false (eq x zero64) (not_T (eq x zero64) (λ h. lt_irrefl x (lt_le_trans x zero64 x l (eq_le zero64 x (eq_sym x zero64 h))))))
 
 -- ---- the order, and zeros
 -- Of values that are not below zero, infinities included, the larger has the larger root, or the same.

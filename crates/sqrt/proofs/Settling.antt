@@ -7,7 +7,10 @@ use Rattle.sqrt.specs.Root.{nearest_root}
 use Rattle.sqrt.proofs.RootTheorem.Squares.{Nearest, nearest_is}
 
 -- u from its front: with p = a * 2^26 + b, the code takes a * a from w, 2 * a * b from what is left, and b * b from that
-pub difference : (p w t d u : ℕ) → let a = p / 67108864 in let b = p % 67108864 in (a * a ≤ w) × (t ≡ w - a * a) → (2 * a * b ≤ t * 67108864) × (d ≡ t * 67108864 - 2 * a * b) → (b * b ≤ d * 67108864 + p) × (u ≡ d * 67108864 + p - b * b) → u + p * p ≡ w * 2 ^ 52 + p
+pub difference : (p w t d u : ℕ) → let a = p / 67108864 in let b = p % 67108864 in (a * a ≤ w) × (t ≡ w - a * a)
+    → (2 * a * b ≤ t * 67108864) × (d ≡ t * 67108864 - 2 * a * b)
+    → (b * b ≤ d * 67108864 + p) × (u ≡ d * 67108864 + p - b * b)
+    → u + p * p ≡ w * 2 ^ 52 + p
 difference p w t d u f g h =
     from_parts (p / 67108864) (p % 67108864) (sym (div-add-mod' p 67108864)) (omega arith) (omega arith) (omega arith)
   where

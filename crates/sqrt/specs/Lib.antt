@@ -1,4 +1,3 @@
--- The definitions of crate `sqrt`. The theorems that lead from them to IEEE 754 are in proofs/RootTheorem.antt.
+-- The definitions of crate `sqrt`; below steps what its inner functions promise. The theorems that lead to IEEE 754 are in proofs/RootTheorem.antt.
 pub mod Root
-pub mod Guess
-pub mod Steps
+pub mod steps

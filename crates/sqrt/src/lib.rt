@@ -6,7 +6,7 @@ pub mod significand;
 ghost use Rattle.std.specs.Prelude.{◌≡◌, false, ◌+◌, ◌-◌, ◌*◌, ◌/◌, ◌%◌, ◌^◌, ◌≤◌, ◌<◌};
 ghost use Rattle.std.specs.Float.Ieee.{odd};
 ghost use Rattle.sqrt.specs.Root as Root;
-ghost use Rattle.sqrt.specs.Steps.{Scales};
+ghost use Rattle.sqrt.specs.steps.RootSteps.{Scales};
 
 use crate::significand::nearest_root;
 

@@ -2,13 +2,13 @@
 // binary digits. A guess by floats is checked by whole numbers, so the answer does not rest on it:
 // where neither the guess nor one of its neighbours is right, the root is worked out digit by digit.
 ghost use Rattle.std.specs.Prelude.{◌≡◌, ◌+◌, ◌*◌, ◌%◌, ◌^◌, ◌<◌};
-ghost use Rattle.sqrt.specs.Guess as Guess;
+ghost use Rattle.sqrt.specs.steps.Guess as Guess;
 ghost use Rattle.sqrt.specs.Root.{nearest_root};
-ghost use Rattle.sqrt.specs.Steps.{Finds};
+ghost use Rattle.sqrt.specs.steps.RootSteps.{Finds};
 
 // A closer guess at 1 / root of x from a guess y, by Newton's rule; half is x / 2. It is written so
 // that the products do not wait for each other.
-#[tactic(auto, unfolding(crate::specs::Guess::closer))]
+#[tactic(auto, unfolding(crate::specs::steps::Guess::closer))]
 fn closer(half: f64, y: f64) -> f64
     ensures { result ≡ Guess.closer half y }
 {
@@ -18,7 +18,7 @@ fn closer(half: f64, y: f64) -> f64
 // A closer guess at the root of x from a guess s, with y for 1 / root. Adding 1.5 * 2^27 and taking
 // it off again leaves the first 26 digits of s, so that x - s * s is worked out from parts that are
 // exact.
-#[tactic(auto, unfolding(crate::specs::Guess::corrected))]
+#[tactic(auto, unfolding(crate::specs::steps::Guess::corrected))]
 fn corrected(x: f64, s: f64, y: f64) -> f64
     ensures { result ≡ Guess.corrected x s y }
 {

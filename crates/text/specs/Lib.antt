@@ -1,9 +1,6 @@
--- Column text: the fields of a line, which lines are good, the first bad one, what a text has whose lines are all good, and the listing.
+-- The definitions of crate `text`; below steps what its inner functions promise, below laws their laws.
 pub mod Lines
-pub mod LineLaws
-pub mod Accepted
 pub mod Fields
-pub mod FieldLaws
-pub mod FieldTheorem
 pub mod Listing
-pub mod ListingLaws
+pub mod steps
+pub mod laws

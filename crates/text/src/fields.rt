@@ -49,7 +49,7 @@ fn is_whole(bytes: &[u8]) -> bool
 }
 
 // The digits of a number, negative or not.
-#[tactic(auto, using(crate::specs::FieldLaws::whole_digits), unfolding(crate::specs::Fields::magnitude_of))]
+#[tactic(auto, using(crate::specs::laws::FieldLaws::whole_digits), unfolding(crate::specs::Fields::magnitude_of))]
 fn magnitude_of(negative: bool, bytes: &[u8]) -> Option<Number>
     requires { length bytes.now ≤ 18 }
     ensures { result ≡ Fields.magnitude_of negative bytes.now }

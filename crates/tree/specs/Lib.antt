@@ -1,9 +1,5 @@
--- The definitions of crate `tree`, and their theorems.
+-- The definitions of crate `tree`; below steps what its inner functions promise, below laws their laws.
 pub mod Tree
 pub mod TreeRules
-pub mod TreeTest
-pub mod TreeTheorem
-pub mod Numbers
-pub mod JoinLaws
-pub mod Once
-pub mod Counting
+pub mod steps
+pub mod laws

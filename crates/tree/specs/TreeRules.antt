@@ -2,8 +2,8 @@
 use Rattle.std.specs.Prelude.{ℕ, suc, ◌+◌, ◌*◌, ◌≤◌, ◌<◌, ◌≡◌, ◌⊎◌, true, length}
 use Rattle.keys.specs.Sorting.{count}
 use Rattle.mesh.specs.Mesh.{Mesh, triangle_count, own_box}
-use Rattle.math.specs.Boxes.{encloses}
-use Rattle.tree.specs.Tree.{Tree, node_count, box_of, start_of, count_of, item_at}
+use Rattle.math.specs.BoundingBoxes.{encloses}
+use Rattle.tree.specs.Tree.{Tree, stride, node_count, box_of, start_of, count_of, item_at}
 
 -- the box of node n encloses the own box of each triangle at the item places from i to item
 abbrev pub Around : Mesh → Tree → ℕ → ℕ → ℕ → Type 0
@@ -33,14 +33,9 @@ pub data Subtree (m : Mesh) (t : Tree) : (depth n i node item : ℕ) → Type 0 
 pub record TreeRules (m : Mesh) (t : Tree) : Type 0 where
   -- the lists have exactly the lengths that the tree needs; `node_count` is half of `nodes`, rounded down, so no number is left over there
   pub boxes : length t.boxes ≡ 6 * node_count t
-  pub nodes : length t.nodes ≡ 2 * node_count t
+  pub nodes : length t.nodes ≡ stride * node_count t
   pub items : length t.items ≡ triangle_count m
   -- items name each triangle once
   pub once : (k : ℕ) → k < triangle_count m → count k t.items ≡ 1
   -- no nodes exactly when there are no triangles; else node 0 is the root of all nodes, over all item places, with paths of at most 32 nodes
   pub tree : ((triangle_count m ≡ 0) × (node_count t ≡ 0)) ⊎ ((0 < triangle_count m) × Subtree m t 32 0 0 (node_count t) (triangle_count m))
-
--- a mesh, and a tree for it
-pub record AcceptedTree : Type 0 where
-  pub mesh : Mesh
-  pub tree : Tree

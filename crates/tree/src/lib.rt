@@ -4,7 +4,7 @@
 
 pub mod items;
 
-ghost use Rattle.std.specs.Prelude.{◌≡◌, ◌+◌, ◌*◌, ◌<◌, length, get_or};
+ghost use Rattle.std.specs.Prelude.{◌≡◌, ◌+◌, ◌*◌, ◌/◌, ◌≤◌, ◌<◌, length, set};
 ghost use Rattle.tree.specs.Tree as Trees;
 
 use math::{BoundingBox, Vec3};
@@ -55,9 +55,10 @@ pub struct AcceptedTree<'a> {
 }
 
 impl<'a> Model for AcceptedTree<'a> {
-    ghost use Rattle.mesh_questions.specs.Accepted.{Accepted};
+    ghost use Rattle.mesh_questions.specs.steps.Accepted.{Accepted};
     ghost use Rattle.tree.specs.Tree.{tree};
-    ghost use Rattle.tree.specs.TreeRules.{AcceptedTree, TreeRules};
+    ghost use Rattle.tree.specs.steps.AcceptedTree.{AcceptedTree};
+    ghost use Rattle.tree.specs.TreeRules.{TreeRules};
 
     ghost Value = { AcceptedTree };
 
@@ -78,13 +79,32 @@ pub fn node_box(boxes: &[f64], n: usize) -> BoundingBox
     }
 }
 
+// How many numbers a node has in a list of node numbers: its start and its count.
+pub const STRIDE: usize = 2;
+
+// How many nodes a list of node numbers has.
+pub fn node_count(nodes: &[u32]) -> usize
+    ensures { result ≡ length nodes.now / Trees.stride }
+{
+    nodes.len() / STRIDE
+}
+
 // Node `n`.
 pub fn node_at(nodes: &[u32], n: usize) -> Node
-    requires { 2 * n + 1 < length nodes.now }
-    ensures { (result.start ≡ get_or nodes.now (2 * n) 0) × (result.count ≡ get_or nodes.now (2 * n + 1) 0) × (result.start < 4294967296) }
+    requires { Trees.stride * n + 1 < length nodes.now }
+    ensures { (result.start ≡ (Trees.node_at nodes.now n).start) × (result.count ≡ (Trees.node_at nodes.now n).count) × (result.start < 4294967296) }
 {
     Node {
-        start: nodes[2 * n] as usize,
-        count: nodes[2 * n + 1] as usize,
+        start: nodes[STRIDE * n] as usize,
+        count: nodes[STRIDE * n + 1] as usize,
     }
+}
+
+// Writes node `n`. Its numbers are cut by `as`, with no `try_from`: the clause says that they fit, so no error could be
+// told.
+pub fn put_node(nodes: &mut [u32], n: usize, node: Node)
+    requires { (Trees.stride * n + 2 ≤ length nodes.old) × (node.start < 4294967296) × (node.count < 4294967296) }
+    ensures { nodes.new ≡ set (set nodes.old (Trees.stride * n) node.start) (Trees.stride * n + 1) node.count }
+{
+    nodes[STRIDE * n..STRIDE * n + STRIDE].copy_from_slice(&[node.start as u32, node.count as u32]);
 }

@@ -1,3 +1,4 @@
--- The definitions of crate `tree_check`, and the places that its refusals name.
+-- The definitions of crate `tree_check`; below steps what its inner functions promise, below laws their laws.
 pub mod Check
-pub mod Places
+pub mod steps
+pub mod laws

@@ -1,41 +1,41 @@
 // The tree check: document 01's questions 1 to 7. The definitions are in specs/Check.antt (the questions and
-// the promise) and in crate tree, specs/TreeTest.antt (the tree rules as a test).
+// the promise) and in crate tree, specs/steps/TreeTest.antt (the tree rules as a test).
 #![tactic(auto)]
 
 ghost use Rattle.std.specs.Prelude.{◌≡◌, ◌&&◌, ◌+◌, ◌-◌, ◌*◌, ◌/◌, ◌≤◌, ◌<◌, eqb, length};
-ghost use Rattle.refusal.specs.Verdicts.{answered};
 ghost use Rattle.tree.specs.Tree as Trees;
-ghost use Rattle.tree.specs.TreeTest as TreeTest;
+ghost use Rattle.tree.specs.steps.TreeTest as TreeTest;
+ghost use Rattle.tree_check.specs.steps.CheckSteps as CheckSteps;
 ghost use Rattle.tree_check.specs.Check as Check;
 
 use math::BoundingBox;
-use mesh::AcceptedMesh;
+use mesh::{AcceptedMesh, ask_room};
 use mesh_questions::Mesh;
 use refusal::Refusal;
 use std::marker::Model;
 use tree::items::items_once;
-use tree::{AcceptedTree, Tree, Walked, node_at, node_box};
+use tree::{AcceptedTree, STRIDE, Tree, Walked, node_at, node_box, node_count};
 
 // An accepted mesh and a lent tree whose lists fit each other, and whose items are triangles of the mesh.
 #[derive(Drop)]
-struct Lent<'t, 'a> {
+struct Fitting<'t, 'a> {
     mesh: &'t AcceptedMesh<'a>,
     tree: &'t Tree<'a>,
 }
 
-impl<'t, 'a> Model for Lent<'t, 'a> {
-    ghost use Rattle.tree.specs.TreeRules.{AcceptedTree};
-    ghost use Rattle.tree.specs.TreeTest as TreeTest;
+impl<'t, 'a> Model for Fitting<'t, 'a> {
+    ghost use Rattle.tree.specs.steps.AcceptedTree.{AcceptedTree};
+    ghost use Rattle.tree.specs.steps.TreeTest as TreeTest;
 
     ghost Value = { AcceptedTree };
 
     ghost view = { λ l. record { mesh = l.mesh.now; tree = l.tree.now } };
 
-    ghost invariant = { λ l. TreeTest.Lent l.mesh.now l.tree.now };
+    ghost invariant = { λ l. TreeTest.Fitting l.mesh.now l.tree.now };
 }
 
 // What the walk found, if the box of the node encloses what lies below it. A call of its own would copy what was found.
-#[tactic(auto, unfolding(tree::specs::TreeTest::boxed_by))]
+#[tactic(auto, unfolding(tree::specs::steps::TreeTest::boxed_by))]
 #[inline(always)]
 fn boxed(b: BoundingBox, walked: Walked) -> Option<Walked>
     ensures { result ≡ TreeTest.boxed_by b (Some walked) }
@@ -43,10 +43,10 @@ fn boxed(b: BoundingBox, walked: Walked) -> Option<Walked>
     b.encloses(walked.joined).then_some(walked)
 }
 
-impl<'t, 'a> Lent<'t, 'a> {
+impl<'t, 'a> Fitting<'t, 'a> {
     // The walk at a leaf: it has at most four items, they begin at place `i` and are in the list.
     fn leaf(&self, n: usize, i: usize) -> Option<Walked>
-        requires node { n < length self.now.tree.nodes / 2 }
+        requires node { n < length self.now.tree.nodes / Trees.stride }
         requires leaf { 0 < Trees.count_of self.now.tree n }
         ensures { result ≡ TreeTest.leaf_walk self.now.mesh self.now.tree n i }
     {
@@ -82,7 +82,7 @@ impl<'t, 'a> Lent<'t, 'a> {
         if depth == 0 {
             return None;
         }
-        if n >= tree.nodes.len() / 2 {
+        if n >= node_count(tree.nodes) {
             return None;
         }
         let node = node_at(tree.nodes, n);
@@ -111,7 +111,7 @@ impl<'t, 'a> Lent<'t, 'a> {
     {
         let tree = self.tree;
         let triangles = self.mesh.triangle_count();
-        let n = tree.nodes.len() / 2;
+        let n = node_count(tree.nodes);
         if triangles == 0 {
             return n == 0;
         }
@@ -122,10 +122,10 @@ impl<'t, 'a> Lent<'t, 'a> {
 
 // Whether the list of boxes has six floats a node, and the list of node numbers two.
 fn lengths_fit(tree: &Tree) -> bool
-    ensures { result ≡ (eqb (length tree.now.boxes) (6 * (length tree.now.nodes / 2)) && eqb (length tree.now.nodes) (2 * (length tree.now.nodes / 2))) }
+    ensures { result ≡ (eqb (length tree.now.boxes) (6 * (length tree.now.nodes / Trees.stride)) && eqb (length tree.now.nodes) (Trees.stride * (length tree.now.nodes / Trees.stride))) }
 {
-    let n = tree.nodes.len() / 2;
-    (tree.boxes.len() == 6 * n) & (tree.nodes.len() == 2 * n)
+    let n = node_count(tree.nodes);
+    (tree.boxes.len() == 6 * n) & (tree.nodes.len() == STRIDE * n)
 }
 
 // Whether the tree keeps the rules. Work places are used for counting the items. That there is one for each corner
@@ -133,7 +133,7 @@ fn lengths_fit(tree: &Tree) -> bool
 // question 6 asks it.
 fn keeps_rules(mesh: &AcceptedMesh, tree: &Tree, work: &mut [u64]) -> bool
     requires { length mesh.now.corners ≤ length work.old }
-    ensures { Check.Keeps mesh.now tree.now work.old result work.new }
+    ensures { CheckSteps.Keeps mesh.now tree.now work.old result work.new }
 {
     let triangles = mesh.triangle_count();
     if !lengths_fit(tree) {
@@ -142,26 +142,13 @@ fn keeps_rules(mesh: &AcceptedMesh, tree: &Tree, work: &mut [u64]) -> bool
     if !items_once(tree.items, triangles, work) {
         return false;
     }
-    Lent { mesh, tree }.root_fits()
-}
-
-// Questions 1 to 6: a mesh, and a work place for each corner.
-#[tactic(auto, unfolding(crate::specs::Check::ask_room))]
-pub fn ask_room<'a>(mesh: &Mesh<'a>, work: usize) -> Result<AcceptedMesh<'a>, Refusal>
-    ensures { result ≡ answered (Check.ask_room mesh.now work) mesh.now }
-{
-    let accepted = AcceptedMesh::accept(mesh)?;
-    if accepted.corners.len() <= work {
-        Ok(accepted)
-    } else {
-        Err(Refusal::Room)
-    }
+    Fitting { mesh, tree }.root_fits()
 }
 
 // Question 7, of a mesh that passes 1 to 6. The work places that it needs hold 0 then.
 pub fn ask_tree(mesh: &AcceptedMesh, tree: &Tree, work: &mut [u64]) -> Result<(), Refusal>
     requires { length mesh.now.corners ≤ length work.old }
-    ensures { Check.AsksTree mesh.now tree.now work.old result work.new }
+    ensures { CheckSteps.AsksTree mesh.now tree.now work.old result work.new }
 {
     let kept = keeps_rules(mesh, tree, work);
     lent::clear(work, mesh.corners.len());
@@ -174,7 +161,7 @@ pub fn accept_tree<'a>(
     tree: &Tree<'a>,
     work: &mut [u64],
 ) -> Result<AcceptedTree<'a>, Refusal>
-    ensures { Check.Accepts mesh.now tree.now work.old result work.new }
+    ensures { CheckSteps.AcceptsTree mesh.now tree.now work.old result work.new }
 {
     let accepted = ask_room(mesh, work.len())?;
     ask_tree(&accepted, tree, work)?;

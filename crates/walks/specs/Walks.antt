@@ -1,13 +1,9 @@
--- The two walks over a lent tree: what they come to, in which order. Definitions only.
-use Rattle.std.specs.Prelude.{Option, ℕ, zero, suc, ◌+◌, ◌≤◌, ◌<◌, ◌≡◌, Bool, cond, List, [], ◌∷◌, ◌++◌, map, eqb, Float, length, get_or, IfSome, IfNone}
-use Rattle.std.specs.Borrow.{Bor}
+-- The two walks over a lent tree (csx's bvh.rs, `visit`): what they come to, in which order. Definitions only.
+use Rattle.std.specs.Prelude.{ℕ, zero, suc, ◌+◌, Bool, cond, List, [], ◌∷◌, ◌++◌, map, eqb, Float, get_or}
 use Rattle.math.specs.declared.Vec3.{Vec3}
 use Rattle.math.specs.declared.BoundingBox.{BoundingBox}
-use Rattle.mesh_questions.specs.Accepted.{Accepted}
-use Rattle.mesh.specs.Items.{Items}
 use Rattle.mesh.specs.Mesh.{Mesh}
 use Rattle.tree.specs.Tree.{Tree, node_count, box_of, start_of, count_of}
-use Rattle.tree.specs.TreeRules.{TreeRules}
 use Rattle.scan.specs.Scan.{Vote, some, surface_passes, touches, ray_passes, found, is_degenerate, vote_over}
 
 -- what a walk comes to: a node, whose box it tests, or a triangle of a leaf
@@ -56,7 +52,7 @@ surface_walk m t eps p = up_to (touches m eps p) (all_visits t (surface_passes e
 
 -- the ray walk ends at the first Degenerate triangle
 unfoldable pub ray_walk : Mesh → Tree → Vec3 → Vec3 → List Visit
-ray_walk m t d p = up_to (λ k. is_degenerate (found m d p k)) (all_visits t (ray_passes d p))
+ray_walk m t p d = up_to (λ k. is_degenerate (found m p d k)) (all_visits t (ray_passes p d))
 
 -- whether the surface walk comes to a triangle that touches the point
 unfoldable pub walk_touches : Mesh → Tree → Float → Vec3 → Bool
@@ -64,22 +60,4 @@ walk_touches m t eps p = some (touches m eps p) (reached (surface_walk m t eps p
 
 -- the vote of a direction by what the ray walk comes to
 unfoldable pub walk_vote : Mesh → Tree → Vec3 → Vec3 → Vote
-walk_vote m t p d = vote_over (found m d p) (reached (ray_walk m t d p))
-
--- what the walks take for granted: an accepted mesh, and a tree that keeps the rules
-pub record Ready (m : Mesh) (t : Tree) : Type 0 where
-  pub accepted : Accepted m.coords m.corners m.ends
-  pub rules : TreeRules m t
-
--- a walk over the triangles of a mesh: those that it still comes to
-pub record Walk : Type 0 where
-  pub mesh : Mesh
-  pub coming : List ℕ
-
--- what a walk gives next: of the triangles that it still comes to the first ones, which are those of one leaf, one to four; and nothing only where it comes to no more
-pub record Gives (w : Walk) (given : Option (Bor (List ℕ))) (w' : Walk) : Type 0 where
-  pub mesh : w'.mesh ≡ w.mesh
-  pub leaf : IfSome given (λ items. w.coming ≡ items.now ++ w'.coming)
-  pub triangles : IfSome given (λ items. Items w.mesh items.now)
-  pub places : IfSome given (λ items. (0 < length items.now) × (length items.now ≤ 4))
-  pub end : IfNone given (w.coming ≡ [])
+walk_vote m t p d = vote_over (found m p d) (reached (ray_walk m t p d))

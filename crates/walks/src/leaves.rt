@@ -1,14 +1,14 @@
 // The leaves that a walk comes to, one after the other.
 ghost use Rattle.std.specs.Prelude.{◌≡◌, ◌+◌, ◌*◌, ◌<◌, Bool, false, length};
 ghost use Rattle.math.specs.declared.BoundingBox.{BoundingBox};
-ghost use Rattle.math.specs.Boxes.{is_empty};
+ghost use Rattle.math.specs.BoundingBoxes.{is_empty};
 ghost use Rattle.tree.specs.Tree.{box_at};
-ghost use Rattle.walks.specs.Stacks as Stacks;
+ghost use Rattle.walks.specs.steps.Stacks as Stacks;
 ghost use Rattle.walks.specs.Walks as Walks;
 
 use crate::nodes::{Place, advance, popped};
 use std::marker::Model;
-use tree::{AcceptedTree, node_at};
+use tree::{AcceptedTree, node_at, node_count};
 
 // The test of a node's box by which a walk enters the node or passes it by.
 pub trait NodeTest {
@@ -62,8 +62,8 @@ pub struct Leaves<'t, 'a, P: NodeTest> {
 }
 
 impl<'t, 'a, P: NodeTest> Model for Leaves<'t, 'a, P> {
-    ghost use Rattle.walks.specs.Stacks.{Walking, pending};
-    ghost use Rattle.walks.specs.Walks.{Walk};
+    ghost use Rattle.walks.specs.steps.Stacks.{Walking, pending};
+    ghost use Rattle.walks.specs.steps.Leaves.{Walk};
 
     ghost Value = { Walk };
 
@@ -77,7 +77,7 @@ fn first_place<P: NodeTest>(tree: &AcceptedTree, test: &P) -> Place
     ensures { Stacks.Begins tree.now.mesh tree.now.tree (P.passes test.now) result }
 {
     let end = Place { node: 0, height: 0 };
-    if tree.nodes.len() < 2 {
+    if node_count(tree.nodes) == 0 {
         return end;
     }
     if !test.passes(tree.boxes, 0) {
@@ -95,7 +95,7 @@ impl<'t, 'a, P: NodeTest> Leaves<'t, 'a, P> {
         Leaves {
             tree,
             test,
-            stack: [tree.nodes.len() / 2; 32],
+            stack: [node_count(tree.nodes); 32],
             at: first_place(tree, test),
         }
     }
@@ -104,7 +104,7 @@ impl<'t, 'a, P: NodeTest> Leaves<'t, 'a, P> {
 // The triangles of one leaf after the other.
 impl<'t, 'a, P: NodeTest> Iterator for Leaves<'t, 'a, P> {
     ghost use Rattle.std.specs.Iterator.{item_count};
-    ghost use Rattle.walks.specs.Walks.{Walk, Gives};
+    ghost use Rattle.walks.specs.steps.Leaves.{Walk, Gives};
 
     type Item = &'a [u32];
 

@@ -1,6 +1,6 @@
 // Where a walk over the nodes of a tree is.
 ghost use Rattle.std.specs.Prelude.{◌≡◌, ◌<◌};
-ghost use Rattle.walks.specs.Stacks as Stacks;
+ghost use Rattle.walks.specs.steps.Stacks as Stacks;
 
 // Where a walk is: at the root of a subtree that is to be visited, with so many to come, this one included. The roots
 // of the others are on the walk's stack, the next one at place `height - 1`; place 0 has the number of nodes. It is no

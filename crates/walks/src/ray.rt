@@ -2,21 +2,21 @@
 ghost use Rattle.std.specs.Prelude.{◌≡◌, ◌+◌, ◌-◌, ◌*◌, ◌≤◌, ◌<◌, true, map, length, Some};
 ghost use Rattle.math.specs.declared.BoundingBox.{BoundingBox};
 ghost use Rattle.math.specs.Vectors as Vectors;
-ghost use Rattle.mesh.specs.Axes as Axes;
-ghost use Rattle.mesh.specs.Items as Items;
+ghost use Rattle.mesh.specs.steps.Axes as Axes;
+ghost use Rattle.mesh.specs.steps.Items as Items;
 ghost use Rattle.mesh.specs.Mesh as Mesh;
 ghost use Rattle.scan.specs.Scan as Scan;
-ghost use Rattle.scan.specs.ScanLaws as ScanLaws;
-ghost use Rattle.walks.specs.Casts as Casts;
-ghost use Rattle.walks.specs.Leaves as Kept;
-ghost use Rattle.walks.specs.Planes as Planes;
+ghost use Rattle.scan.specs.steps.VoteSteps as VoteSteps;
+ghost use Rattle.walks.specs.steps.Casts as Casts;
+ghost use Rattle.walks.specs.steps.Kept as Kept;
+ghost use Rattle.walks.specs.steps.NodePlanes as NodePlanes;
 ghost use Rattle.walks.specs.Walks as Walks;
 
 use crate::leaves::{Leaves, NodeTest};
 use crate::nodes::raised;
 use math::Vec3;
 use mesh::{AcceptedMesh, Axis};
-use scan::rays::{RayHit, overlap, ray_hits_box, ray_triangle};
+use scan::rays::{RayHit, meets, overlap, ray_hits_box, ray_triangle};
 use scan::votes::{Parity, with_found};
 use std::marker::Model;
 use tree::AcceptedTree;
@@ -53,7 +53,7 @@ pub struct Ray {
 }
 
 impl Model for Ray {
-    ghost use Rattle.walks.specs.Casts.{Cast, Line};
+    ghost use Rattle.walks.specs.steps.Casts.{Cast, Line};
 
     ghost Value = { Line };
 
@@ -79,18 +79,18 @@ fn inverse(d: Vec3) -> Vec3
 }
 
 // That place on one axis: of the minimum, unless the ray comes from the other side.
-#[tactic(auto, unfolding(crate::specs::Planes::near_place))]
+#[tactic(auto, unfolding(crate::specs::steps::NodePlanes::near_place))]
 fn near_place(inverse: f64, axis: Axis) -> usize
-    ensures { result ≡ Planes.near_place inverse (Axes.place axis) }
+    ensures { result ≡ NodePlanes.near_place inverse (Axes.place axis) }
 {
     let place = axis.place();
     if 0.0 < inverse { place } else { place + 3 }
 }
 
 // Those places.
-#[tactic(auto, unfolding(crate::specs::Planes::near_places))]
+#[tactic(auto, unfolding(crate::specs::steps::NodePlanes::near_places))]
 fn near_places(inverse: Vec3) -> Near
-    ensures { result ≡ Planes.near_places inverse }
+    ensures { result ≡ NodePlanes.near_places inverse }
 {
     Near {
         x: near_place(inverse.x, Axis::X),
@@ -100,7 +100,7 @@ fn near_places(inverse: Vec3) -> Near
 }
 
 // A direction of three numbers, with what is worked out of it.
-#[tactic(auto, unfolding(crate::specs::Casts::heading))]
+#[tactic(auto, unfolding(crate::specs::steps::Casts::heading))]
 fn heading_of(d: [f64; 3]) -> Heading
     ensures { result ≡ Casts.heading (Vectors.at d 0) }
 {
@@ -120,32 +120,41 @@ pub fn headings() -> [Heading; 3]
     RAY_DIRS.map(heading_of)
 }
 
-// Where the ray meets the plane at place `i`, on one axis.
-#[tactic(auto, unfolding(crate::specs::Planes::meets_at))]
-fn meets(boxes: &[f64], i: usize, origin: f64, inverse: f64) -> f64
-    requires { i < length boxes.now }
-    ensures { result ≡ Planes.meets_at boxes.now i origin inverse }
+// Where the farther one stands on an axis: of its two planes one stands at its number, and the other three places
+// behind.
+fn far_place(near: usize, axis: Axis) -> usize
+    requires { near ≤ 2 * Axes.place axis + 3 }
+    ensures { result ≡ NodePlanes.far_place near (Axes.place axis) }
 {
-    (boxes[i] - origin) * inverse
+    2 * axis.place() + 3 - near
+}
+
+// Where the ray meets the plane at place `i`, on one axis.
+#[tactic(auto, unfolding(crate::specs::steps::NodePlanes::meets_at))]
+fn meets_at(boxes: &[f64], i: usize, origin: f64, inverse: f64) -> f64
+    requires { i < length boxes.now }
+    ensures { result ≡ NodePlanes.meets_at boxes.now i origin inverse }
+{
+    meets(origin, inverse, boxes[i])
 }
 
 impl NodeTest for Ray {
-    ghost passes = { λ ray b. Scan.ray_passes ray.direction ray.origin b };
+    ghost passes = { λ ray b. Scan.ray_passes ray.origin ray.direction b };
 
     // `ray_hits_box`, with the planes read by their places.
-    #[tactic(auto, using(crate::specs::Casts::within))]
+    #[tactic(auto, using(crate::specs::laws::CastLaws::within))]
     fn passes(&self, boxes: &[f64], n: usize) -> bool {
         let o = self.origin;
         let inv = self.heading.inverse;
         let near = self.heading.near;
         let i = 6 * n;
         overlap(
-            meets(boxes, i + near.x, o.x, inv.x),
-            meets(boxes, i + near.y, o.y, inv.y),
-            meets(boxes, i + near.z, o.z, inv.z),
-            meets(boxes, i + (3 - near.x), o.x, -inv.x),
-            meets(boxes, i + (5 - near.y), o.y, -inv.y),
-            meets(boxes, i + (7 - near.z), o.z, -inv.z),
+            meets_at(boxes, i + near.x, o.x, inv.x),
+            meets_at(boxes, i + near.y, o.y, inv.y),
+            meets_at(boxes, i + near.z, o.z, inv.z),
+            meets_at(boxes, i + far_place(near.x, Axis::X), o.x, -inv.x),
+            meets_at(boxes, i + far_place(near.y, Axis::Y), o.y, -inv.y),
+            meets_at(boxes, i + far_place(near.z, Axis::Z), o.z, -inv.z),
         )
     }
 }
@@ -154,7 +163,7 @@ impl Ray {
     // Whether the own box of triangle `t` passes.
     fn own_passes(&self, mesh: &AcceptedMesh, t: u32) -> bool
         requires { Items.Item mesh.now t }
-        ensures { result ≡ Scan.ray_passes self.now.direction self.now.origin (Mesh.own_box mesh.now t) }
+        ensures { result ≡ Scan.ray_passes self.now.origin self.now.direction (Mesh.own_box mesh.now t) }
     {
         let own = mesh.corner_points(t).own_box();
         ray_hits_box(self.origin, self.heading.inverse, own)
@@ -164,19 +173,19 @@ impl Ray {
     #[tactic(auto, unfolding(scan::specs::Scan::found, scan::specs::Scan::crossing))]
     fn found(&self, mesh: &AcceptedMesh, t: u32) -> RayHit
         requires item { Items.Item mesh.now t }
-        requires passes { Scan.ray_passes self.now.direction self.now.origin (Mesh.own_box mesh.now t) ≡ true }
-        ensures { result ≡ Scan.found mesh.now self.now.direction self.now.origin t }
+        requires passes { Scan.ray_passes self.now.origin self.now.direction (Mesh.own_box mesh.now t) ≡ true }
+        ensures { result ≡ Scan.found mesh.now self.now.origin self.now.direction t }
     {
         ray_triangle(self.origin, self.heading.direction, mesh.corner_points(t))
     }
 
     // Stores the items whose own boxes pass, and says how many they are. Four places and a count: each item is stored,
     // and counts if its box passes. To a list that has its length it would be added under an `if`, which is no plainer.
-    #[tactic(auto, using(crate::specs::Leaves::kept_few))]
+    #[tactic(auto, using(crate::specs::laws::LeafLaws::kept_few))]
     fn keep_passing(&self, mesh: &AcceptedMesh, items: &[u32], kept: &mut [u32; 4]) -> usize
         requires items { Items.Items mesh.now items.now }
         requires few { length items.now ≤ 4 }
-        ensures { Kept.Kept mesh.now self.now.direction self.now.origin items.now 0 (length items.now) kept.new result }
+        ensures { Kept.Kept mesh.now self.now.origin self.now.direction items.now 0 (length items.now) kept.new result }
     {
         let mut n = 0;
         for t in items {
@@ -190,7 +199,7 @@ impl Ray {
     fn parity_with(&self, mesh: &AcceptedMesh, items: &[u32], given: Parity) -> Option<Parity>
         requires items { Items.Items mesh.now items.now }
         requires few { length items.now ≤ 4 }
-        ensures { result ≡ ScanLaws.cast_over (Scan.found mesh.now self.now.direction self.now.origin) (Some given) items.now }
+        ensures { result ≡ VoteSteps.cast_over (Scan.found mesh.now self.now.origin self.now.direction) (Some given) items.now }
     {
         let mut kept = [0; 4];
         let n = self.keep_passing(mesh, items, &mut kept);

@@ -1,7 +1,7 @@
 // The surface walk: whether a point is near a triangle. The definitions are in specs/Walks.antt, and in crate scan,
 // specs/Scan.antt.
 ghost use Rattle.std.specs.Prelude.{◌≡◌};
-ghost use Rattle.mesh.specs.Items as Items;
+ghost use Rattle.mesh.specs.steps.Items as Items;
 ghost use Rattle.scan.specs.Scan as Scan;
 ghost use Rattle.walks.specs.Walks as Walks;
 
@@ -28,7 +28,7 @@ impl Touch {
     }
 
     // Whether triangle `t` touches the point.
-    #[tactic(auto, unfolding(scan::specs::Scan::touches, scan::specs::Scan::within, mesh::specs::Mesh::own_box), using(mesh::specs::Boxes::points_box))]
+    #[tactic(auto, unfolding(scan::specs::Scan::touches, scan::specs::Scan::within, mesh::specs::Mesh::own_box), using(mesh::specs::laws::MeshBoxLaws::points_box))]
     fn touches(self, mesh: &AcceptedMesh, t: u32) -> bool
         requires { Items.Item mesh.now t }
         ensures { result ≡ Scan.touches mesh.now self.eps self.point t }

@@ -8,17 +8,19 @@ use lib.Ieee.{Float}
 use lib.ListN.{length, take, drop, length-append, take-append-drop}
 use lib.Seq.{take-add, take_all, length-take-le}
 use Rattle.refusal.specs.Verdicts.{Passed}
-use Rattle.lent.specs.Over.{over, over_behind}
+use Rattle.lent.specs.Over.{over}
+use Rattle.lent.specs.laws.OverLaws.{over_behind}
 use Rattle.math.specs.declared.Vec3.{Vec3}
-use Rattle.math.specs.Vectors.{at, points, points_next, length_points}
+use Rattle.math.specs.Vectors.{at, points}
+use Rattle.math.specs.laws.VectorLaws.{points_next, length_points}
 use Rattle.mesh.specs.declared.Triangle.{Triangle}
 use Rattle.mesh.specs.Triangles.{triangle}
 use Rattle.weld.specs.Welding.{find, add, add_all, kept, faces_among, numbers, corners_of, ends_from, vertices, faces, coords, corners, ends}
-use Rattle.weld.specs.Questions.{ask_corners}
-use Rattle.weld.specs.Steps.{first, AddsThree, Keeps, WeldsAll}
-use Rattle.weld.specs.Finding.{length_add_all, add_all_append, find_welded}
-use Rattle.weld.specs.Lists.{drop_points, over_numbers, first_over, length_corners_of, corners_of_append, length_ends_from, ends_from_append, faces_among_append, length_faces_among}
-use Rattle.weld.specs.Passed.{finite_head, finite_drop, same_self}
+use Rattle.weld.specs.WeldQuestions.{ask_corners}
+use Rattle.weld.specs.steps.WeldSteps.{first, AddsThree, Keeps, WeldsAll}
+use Rattle.weld.specs.laws.Finding.{length_add_all, add_all_append, find_welded}
+use Rattle.weld.specs.laws.WrittenLists.{drop_points, over_numbers, first_over, length_corners_of, corners_of_append, length_ends_from, ends_from_append, faces_among_append, length_faces_among}
+use Rattle.weld.specs.laws.Passed.{finite_head, finite_drop, same_self}
 
 -- the corners of the first i triangles
 abbrev pub passed : List Float → ℕ → List Vec3

@@ -1,9 +1,5 @@
--- The definitions of crate `weld` (Welding, Questions, Steps), their laws (Lists, Finding, Passed), and the law that a welded mesh is
--- accepted (Accepted).
+-- The definitions of crate `weld`; below steps what its inner functions promise, below laws their laws.
 pub mod Welding
-pub mod Questions
-pub mod Steps
-pub mod Lists
-pub mod Finding
-pub mod Passed
-pub mod Accepted
+pub mod WeldQuestions
+pub mod steps
+pub mod laws

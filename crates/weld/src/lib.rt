@@ -1,13 +1,13 @@
 // Welding triangles into a mesh: csx's `Polyhedron::from_triangles` (polyhedron.rs), after document
 // 01's questions 1, 5 and 6. The definitions are in specs/Welding.antt (the mesh) and
-// specs/Questions.antt (the questions and the promise).
+// specs/WeldQuestions.antt (the questions and the promise).
 #![tactic(auto)]
 
 ghost use Rattle.std.specs.Prelude.{◌≡◌, true, ◌+◌, ◌*◌, ◌/◌, ◌<◌, ◌≤◌, length};
 ghost use Rattle.math.specs.Vectors.{at, points};
 ghost use Rattle.refusal.specs.Verdicts.{Passed};
-ghost use Rattle.weld.specs.Questions.{whole_triangles, ask_corners, room, ask_triangles, Welds};
-ghost use Rattle.weld.specs.Steps.{first, Finds, Adds, AddsThree, Keeps, WeldsAll};
+ghost use Rattle.weld.specs.WeldQuestions.{whole_triangles, ask_corners, weld_room, ask_triangles, Welds};
+ghost use Rattle.weld.specs.steps.WeldSteps.{first, Finds, Adds, AddsThree, Keeps, WeldsAll};
 
 use math::Vec3;
 use mesh::Triangle;
@@ -78,7 +78,7 @@ fn keep_triangle(t: Triangle, corners: &mut [u32], ends: &mut [u32], count: &mut
 fn weld_all(triangles: &[f64], coords: &mut [f64], corners: &mut [u32], ends: &mut [u32]) -> Counts
     requires whole { whole_triangles triangles.now ≡ true }
     requires finite { ask_corners triangles.now ≡ Passed }
-    requires room { room (length triangles.now / 9) (length coords.old) (length corners.old) (length ends.old) ≡ true }
+    requires room { weld_room (length triangles.now / 9) (length coords.old) (length corners.old) (length ends.old) ≡ true }
     ensures { WeldsAll triangles.now coords.old corners.old ends.old result coords.new corners.new ends.new }
 {
     let mut counts = Counts::default();
@@ -92,7 +92,7 @@ fn weld_all(triangles: &[f64], coords: &mut [f64], corners: &mut [u32], ends: &m
 
 // Questions 1, 5 and 6, with the lengths of the buffers. They are no struct: it is asked in two places, of three lists
 // that C lends one by one.
-#[tactic(auto, using(crate::specs::Passed::whole_passed), unfolding(crate::specs::Questions::ask_triangles, crate::specs::Questions::whole_triangles, crate::specs::Questions::ask_corners, crate::specs::Questions::room))]
+#[tactic(auto, using(crate::specs::laws::Passed::whole_passed), unfolding(crate::specs::WeldQuestions::ask_triangles, crate::specs::WeldQuestions::whole_triangles, crate::specs::WeldQuestions::ask_corners, crate::specs::WeldQuestions::weld_room))]
 pub fn ask_triangles(
     triangles: &[f64],
     coords: usize,

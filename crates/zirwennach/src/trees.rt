@@ -1,7 +1,7 @@
 // The C functions for trees.
 ghost use Rattle.mesh.specs.Mesh as Mesh;
 ghost use Rattle.tree.specs.Tree as Tree;
-ghost use Rattle.c_meshes.specs.Trees as Trees;
+ghost use Rattle.c_meshes.specs.TreeCalls as TreeCalls;
 
 // Builds the tree of a mesh, and returns how many nodes it has.
 #[unsafe(no_mangle)]
@@ -13,7 +13,7 @@ pub extern "C" fn csx_build_tree(
     nodes: &mut [u32],
     items: &mut [u32],
 ) -> u64
-    ensures { Trees.Builds (Mesh.mesh coords.now corners.now ends.now) boxes.old nodes.old items.old result boxes.new nodes.new items.new }
+    ensures { TreeCalls.Builds (Mesh.mesh coords.now corners.now ends.now) boxes.old nodes.old items.old result boxes.new nodes.new items.new }
 {
     c_meshes::trees::csx_build_tree(coords, corners, ends, boxes, nodes, items)
 }
@@ -30,7 +30,7 @@ pub extern "C" fn csx_check_tree(
     items: &[u32],
     work: &mut [u64],
 ) -> u64
-    ensures { Trees.Checks (Mesh.mesh coords.now corners.now ends.now) (Tree.tree boxes.now nodes.now items.now) work.old result work.new }
+    ensures { TreeCalls.Checks (Mesh.mesh coords.now corners.now ends.now) (Tree.tree boxes.now nodes.now items.now) work.old result work.new }
 {
     c_meshes::trees::csx_check_tree(coords, corners, ends, boxes, nodes, items, work)
 }

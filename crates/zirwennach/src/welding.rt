@@ -1,5 +1,5 @@
 // The C function for welding.
-ghost use Rattle.c_meshes.specs.Welding as Welding;
+ghost use Rattle.c_meshes.specs.WeldCall as WeldCall;
 
 // Welds triangles, nine numbers each, into a mesh. `sizes` then begins with how many vertices and faces
 // were written.
@@ -11,7 +11,7 @@ pub extern "C" fn csx_from_triangles(
     ends: &mut [u32],
     sizes: &mut [u64],
 ) -> u64
-    ensures { Welding.Welds triangles.now coords.old corners.old ends.old sizes.old result coords.new corners.new ends.new sizes.new }
+    ensures { WeldCall.Welds triangles.now coords.old corners.old ends.old sizes.old result coords.new corners.new ends.new sizes.new }
 {
     c_meshes::meshes::csx_from_triangles(triangles, coords, corners, ends, sizes)
 }

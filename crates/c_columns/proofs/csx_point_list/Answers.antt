@@ -1,6 +1,6 @@
 -- `csx_point_list` meets its contract: `point_list` promises the listing and its bytes or the refusal, and the number of that is returned.
 use Rattle.std.proofs.Common.{◌∙◌, rules, tests}
-use Rattle.refusal.specs.Returned.{number_answered}
+use Rattle.refusal.specs.laws.Returned.{number_answered}
 use Rattle.c_columns.proofs.csx_point_list.Goals as goal
 
 pub returns : goal.returns

@@ -3,10 +3,10 @@ use native.Mathlib.Omega.{arith}
 use mathlib.Core.Path.{sym}
 use lib.ListN.{length}
 use Rattle.std.proofs.lemmas.Result.{err_from_is_err_and}
-use Rattle.mesh_questions.specs.Accepted.{asked_passed, asked_refused}
-use Rattle.polyhedron.specs.ListLaws.{length_answers_to, list_passed}
+use Rattle.mesh_questions.specs.laws.AcceptedLaws.{asked_passed, asked_refused}
+use Rattle.polyhedron.specs.laws.ListLaws.{length_answers_to, list_passed}
 use Rattle.text.specs.Listing.{listing_length}
-use Rattle.column.specs.CallLaws.{refused_mesh, refused_room, listed_answers}
+use Rattle.column.specs.laws.CallLaws.{refused_mesh, refused_room, listed_answers}
 use Rattle.column.proofs.list_answers.Goals as goal
 
 pub returns-in_err-ask : goal.returns-in_err-ask

@@ -1,7 +1,7 @@
 -- `list_into` meets its contract: the lists begin with what the lines say, and `list_answers` gives the listing of that.
 use native.Mathlib.Omega.{arith}
 use lib.Seq.{length-take-le}
-use Rattle.column.specs.CallLaws.{has, vertices_whole, triangles_whole, points_whole, coords_found, corners_found, ends_found, points_found, few_found, lists_found}
+use Rattle.column.specs.laws.CallLaws.{has, vertices_whole, triangles_whole, points_whole, coords_found, corners_found, ends_found, points_found, few_found, lists_found}
 use Rattle.column.proofs.list_into.Goals as goal
 
 pub fill-requires : goal.fill-requires

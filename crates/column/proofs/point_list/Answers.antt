@@ -5,7 +5,7 @@ use Rattle.refusal.specs.declared.Refusal.{Refusal}
 use Rattle.refusal.specs.declared.Refusal.TheVariants as Refusals
 use Rattle.text.specs.declared.Counts.{Counts}
 use Rattle.column.specs.Column.{judged, Lists}
-use Rattle.column.specs.CallLaws.{refused_line}
+use Rattle.column.specs.laws.CallLaws.{refused_line}
 use Rattle.column.proofs.point_list.Goals as goal
 
 -- what stands for a bad line is the refusal of that line

@@ -7,14 +7,16 @@ use mathlib.Core.Path.{◌≡◌, sym}
 use mathlib.Core.List.{List, ◌++◌}
 use lib.ListN.{length, take, drop}
 use lib.Seq.{length-take-le}
-use Rattle.keys.specs.Sorting.{sorted, Small}
-use Rattle.keys.specs.SortingTheorems.{length_sorted}
-use Rattle.lent.specs.Over.{over, take_over, drop_over}
+use Rattle.keys.specs.Sorting.{sorted}
+use Rattle.keys.specs.steps.Passes.{Small}
+use Rattle.keys.specs.laws.SortingTheorems.{length_sorted}
+use Rattle.lent.specs.Over.{over}
+use Rattle.lent.specs.laws.OverLaws.{take_over, drop_over}
 use Rattle.mesh_questions.specs.Faces.{faces}
-use Rattle.mesh_questions.specs.Questions.{ends_fit}
+use Rattle.mesh_questions.specs.MeshQuestions.{ends_fit}
 use Rattle.edges.specs.Edges.{edge_keys}
-use Rattle.edges.specs.Below.{Below}
-use Rattle.edges.specs.EdgeLaws.{length_edge_keys, flatten_faces, edge_keys_small}
+use Rattle.edges.specs.steps.Below.{Below}
+use Rattle.edges.specs.laws.EdgeLaws.{length_edge_keys, flatten_faces, edge_keys_small}
 use Rattle.edges.proofs.edge_keys.Goals as goal
 
 module _ (corners ends work₀ work : List ℕ) (fit : ends_fit 0 (length corners) ends ≡ true) (filled : work ≡ over (edge_keys (faces corners ends)) work₀) where

@@ -1,7 +1,7 @@
 use Rattle.std.proofs.Common.{◌≡◌, ◌+◌, get_or, sym, ◌∙◌, take_all, arith, le_refl}
-use Rattle.lent.specs.Over.{over_nothing}
+use Rattle.lent.specs.laws.OverLaws.{over_nothing}
 use Rattle.edges.specs.Edges.{face_keys}
-use Rattle.edges.specs.EdgeLaws.{length_face_keys}
+use Rattle.edges.specs.laws.EdgeLaws.{length_face_keys}
 use Rattle.edges.proofs.Filling.{key_stored}
 use Rattle.edges.proofs.face_keys.Goals as goal
 

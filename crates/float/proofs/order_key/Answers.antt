@@ -7,8 +7,8 @@ use lib.Ieee.{binary64, fits, to_bits}
 use lib.Ieee.Bits.{to_bits-lt}
 use denote.Floats.{passes}
 use Rattle.float.specs.TotalOrder.{key_of, order_key}
-use Rattle.float.specs.OrderTheorems.{key_pattern}
-use Rattle.float.specs.Patterns.{nan_only}
+use Rattle.float.specs.laws.OrderTheorems.{key_pattern}
+use Rattle.float.specs.laws.Patterns.{nan_only}
 use Rattle.float.proofs.order_key.Goals as goal
 
 pub returns-then-is_nan : goal.returns-then-is_nan

@@ -4,8 +4,9 @@ use Rattle.std.proofs.Common.{arith, sym, ◌∙◌, add-zero}
 use Rattle.std.specs.Float.{nan, Float}
 use Rattle.std.specs.Float.Ieee.{le}
 use Rattle.std.specs.Simd.{first_chunks}
-use Rattle.math.specs.Chunks.{in_chunk}
-use Rattle.geom.specs.Polygons.{points2_short, vertex, around_on, around_off, around_end, in_polygon, point_in_polygon, point_in_polygon_around}
+use Rattle.math.specs.laws.Chunks.{in_chunk}
+use Rattle.geom.specs.laws.PolygonLaws.{points2_short, around_on, around_off, around_end, point_in_polygon_around}
+use Rattle.geom.specs.Polygons.{vertex, in_polygon, point_in_polygon}
 use Rattle.geom.specs.Segments.{dist_point_segment2d}
 use Rattle.geom.proofs.point_in_polygon.Goals as goal
 use Rattle.geom.proofs.point_in_polygon.Goals.{After-from-i}

@@ -16,5 +16,5 @@ as_fold m (x ∷ rest) = as_fold (max m (abs x)) rest
 pub returns : goal.returns
 unfolding scale
 returns c =
-    fold_from_yields_List _ (λ m x. max m (abs x)) zero c.fold.result c.fold.ensures.ran (YieldsList-from_slice c.args.list.now (cc)) (λ a x b q k. search (rules, tests))
+    fold_from_yields_List _ (λ m x. max m (abs x)) zero c.fold.result c.fold.ensures.ran (YieldsList-from_slice c.args.list.now c.iter.ensures.rest) (λ a x b q k. search (rules, tests))
     ∙ as_fold zero c.args.list.now

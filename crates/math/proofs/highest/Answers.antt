@@ -1,5 +1,5 @@
 -- `highest` meets its contract: the infinity that the definition starts from gives way to the first number.
-use Rattle.float.specs.Order.{max_number, max_bottom}
+use Rattle.float.specs.laws.Order.{max_number, max_bottom}
 use Rattle.math.proofs.highest.Goals as goal
 
 pub higher-requires-2 : goal.higher-requires-2

@@ -1,5 +1,5 @@
 -- `lowest` meets its contract: the infinity that the definition starts from gives way to the first number.
-use Rattle.float.specs.Order.{min_number, min_top}
+use Rattle.float.specs.laws.Order.{min_number, min_top}
 use Rattle.math.proofs.lowest.Goals as goal
 
 pub lower-requires-2 : goal.lower-requires-2

@@ -4,8 +4,8 @@ use lib.ListN.{length, drop, drop_of_length-le}
 use Rattle.std.proofs.lemmas.Result.{err_from_is_err_and}
 use Rattle.refusal.specs.Verdicts.{Passed}
 use Rattle.mesh_questions.specs.Faces.{faces, faces_from}
-use Rattle.mesh_questions.specs.Questions.{ask_faces}
-use Rattle.mesh_questions.specs.QuestionLaws.{ends_fit_step, ask_faces_next}
+use Rattle.mesh_questions.specs.MeshQuestions.{ask_faces}
+use Rattle.mesh_questions.specs.laws.QuestionLaws.{ends_fit_step, ask_faces_next}
 use Rattle.mesh_questions.proofs.ask_faces.Goals as goal
 
 pub loop-i-init : goal.loop-i-init

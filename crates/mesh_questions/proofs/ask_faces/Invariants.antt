@@ -4,7 +4,7 @@ use mathlib.Core.Path.{◌≡◌}
 use mathlib.Core.Bool.{true}
 use lib.ListN.{length, drop}
 use Rattle.mesh_questions.specs.Faces.{faces, faces_from}
-use Rattle.mesh_questions.specs.Questions.{ends_fit, ask_faces}
+use Rattle.mesh_questions.specs.MeshQuestions.{ends_fit, ask_faces}
 use Rattle.mesh_questions.proofs.ask_faces.Given as goal
 
 abbrev pub invariant-loop-i : goal.invariant-loop-i

@@ -5,7 +5,7 @@ use Rattle.std.proofs.lemmas.Bool.{lt-leb}
 use Rattle.std.proofs.lemmas.List.{get_or_past}
 use Rattle.std.specs.List.Sorted.{IsNonDecreasing}
 use Rattle.std.proofs.lemmas.List.Sorted.{non_decreasing_from_is_sorted}
-use Rattle.mesh_questions.specs.Questions.{ends_fit}
+use Rattle.mesh_questions.specs.MeshQuestions.{ends_fit}
 use Rattle.mesh_questions.proofs.ends_fit.Goals as goal
 
 -- the last end, or what stood before them

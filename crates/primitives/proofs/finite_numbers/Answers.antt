@@ -1,5 +1,5 @@
 -- Written out, so that a wrong `finite_numbers` is refused at once.
-use Rattle.primitives.specs.Questions.{finite_numbers}
+use Rattle.primitives.specs.ShapeQuestions.{finite_numbers}
 use Rattle.primitives.proofs.finite_numbers.Goals as goal
 
 pub returns-in-Point : goal.returns-in-Point

@@ -4,7 +4,7 @@ use mathlib.Core.Logic.{◌⊎◌, inl, inr}
 use Prim.Native.Nat.{ℕ}
 use Rattle.std.specs.Prelude.{Option, Some, None, unwrap_or}
 use Rattle.sqrt.specs.Root.{nearest_root}
-use Rattle.sqrt.specs.Steps.{Finds}
+use Rattle.sqrt.specs.steps.RootSteps.{Finds}
 use Rattle.probes.proofs.probe_settle.Goals as goal
 
 found_or_none : (v : ℕ) (o : Option ℕ) → Finds v o → (unwrap_or o 0 ≡ 0) ⊎ (unwrap_or o 0 ≡ nearest_root v)

@@ -9,8 +9,8 @@ use Rattle.std.specs.Float.Ieee.Bits.{is_true}
 use Rattle.float.specs.Rules.{zero64}
 use Rattle.float.specs.Quanta.{quanta}
 use Rattle.float.specs.TotalOrder.{negative}
-use Rattle.float.specs.Order.{finite_number, le_number_left, le_trans, le_antisym, le_top, le_not_lt, lt_le, lt_le_trans, lt_irrefl, eq_le}
-use Rattle.float.specs.OrderTheorems.Value.{lt_size}
+use Rattle.float.specs.laws.Order.{finite_number, le_number_left, le_trans, le_antisym, le_top, le_not_lt, lt_le, lt_le_trans, lt_irrefl, eq_le}
+use Rattle.float.specs.laws.OrderTheorems.Value.{lt_size}
 use Rattle.sqrt.specs.Root.{root}
 use Rattle.sqrt.proofs.RootTheorem.Cases.{positive_sign, root_at_zero}
 use Rattle.sqrt.proofs.RootTheorem.Nearest.{sized, nearest_root_lem}

@@ -15,8 +15,8 @@ use Rattle.std.specs.Float.Ieee.Bits.{is_true}
 use Rattle.float.specs.Rules.{zero64}
 use Rattle.float.specs.Quanta.{quanta}
 use Rattle.float.specs.TotalOrder.{negative}
-use Rattle.float.specs.OrderTheorems.Value.{Is, Size, of_finite, lt_size, quanta_size}
-use Rattle.float.specs.OrderTheorems.Pattern.{of_pattern}
+use Rattle.float.specs.laws.OrderTheorems.Value.{Is, Size, of_finite, lt_size, quanta_size}
+use Rattle.float.specs.laws.OrderTheorems.Pattern.{of_pattern}
 use Rattle.sqrt.specs.Root.{root, nearest_root, IsNearestRoot}
 use Rattle.sqrt.proofs.RootTheorem.Squares.{Nearest, nearest_low, nearest_high, nearest_root_nearest}
 use Rattle.sqrt.proofs.RootTheorem.Scale.{scaled_range, root_of_is, moved_up, pow_cancel}

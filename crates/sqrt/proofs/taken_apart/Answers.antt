@@ -1,6 +1,6 @@
 -- `sqrt::taken_apart` meets its contract. The bits of a subnormal value, moved up by the zeros before them, have 53 digits (`moved`); any other value's fields are what is asked for.
 use native.Mathlib.Omega.{arith}
-use Rattle.float.specs.OrderTheorems.Pattern.{magnitude_normal}
+use Rattle.float.specs.laws.OrderTheorems.Pattern.{magnitude_normal}
 use Rattle.sqrt.proofs.RootBits.{moved, moved_value}
 use Rattle.sqrt.proofs.taken_apart.Goals as goal
 

@@ -2,7 +2,7 @@
 use Rattle.std.proofs.Common.{rules, ◌≡◌, true, false, Some, None, arith, sym, ◌∙◌}
 use Rattle.std.specs.Slice.Iter.{chunks_rest}
 use Rattle.text.specs.Lines.{none, lines_in, kind_of, may_follow, judge}
-use Rattle.text.specs.LineLaws.{lines_nil, judge_chunk, bad_refused, counted_next}
+use Rattle.text.specs.laws.LineLaws.{lines_nil, judge_chunk, bad_refused, counted_next}
 use Rattle.text.proofs.judge_text.Goals as goal
 use Rattle.text.proofs.judge_text.Goals.{in_default-via-in-Some-judge_line+else-may_follow, in_default-via-in_default}
 

@@ -8,21 +8,25 @@ use Rattle.std.specs.Prelude.{Err}
 use Rattle.std.proofs.lemmas.Result.{err_from_is_err_and}
 use Rattle.lent.specs.Over.{over}
 use Rattle.refusal.specs.declared.Refusal.{Refusal}
-use Rattle.refusal.specs.Verdicts.{Passed, Verdict, answered, written, answered_ok, answered_err, ask_passed}
+use Rattle.refusal.specs.Verdicts.{Passed, Verdict, answered, written}
+use Rattle.refusal.specs.laws.VerdictLaws.{answered_ok, answered_err, ask_passed}
 use Rattle.mesh.specs.Mesh.{Mesh}
+use Rattle.mesh.specs.WorkPlaces.{ask_room, work_left}
+use Rattle.mesh.specs.laws.WorkLaws.{room_passed, zeros_left}
 use Rattle.tree.specs.Tree.{Tree}
-use Rattle.tree.specs.TreeTheorem.{sound}
-use Rattle.tree_check.specs.Check.{ask_room, ask_tree, check_answer, AsksTree, Accepts, room_passed}
+use Rattle.tree.specs.laws.TreeTheorem.{sound}
+use Rattle.tree_check.specs.Check.{ask_tree, check_verdict}
+use Rattle.tree_check.specs.steps.CheckSteps.{AsksTree, AcceptsTree}
 use Rattle.tree_check.proofs.accept_tree.Goals.{In_ok-accepted}
 use Rattle.tree_check.proofs.accept_tree.Goals as goal
 
-refused : (m : Mesh) (t : Tree) (work : List ℕ) (refusal : Refusal) → ask_room m (length work) ≡ Err refusal → Accepts m t work (Err refusal) work
-unfolding check_answer written over
+refused : (m : Mesh) (t : Tree) (work : List ℕ) (refusal : Refusal) → ask_room m (length work) ≡ Err refusal → AcceptsTree m t work (Err refusal) work
+unfolding check_verdict work_left written over
 refused m t work refusal e = record { answer = rw e; work = rw e }
 
-asked : (m : Mesh) (t : Tree) (work₀ work : List ℕ) (v : Verdict) → ask_room m (length work₀) ≡ Passed → AsksTree m t work₀ v work → Accepts m t work₀ (answered v (record { mesh = m; tree = t })) work
-unfolding check_answer written
-asked m t work₀ work v e tree = record { answer = rw (e, tree.answer); work = rw e tree.work }
+asked : (m : Mesh) (t : Tree) (work₀ work : List ℕ) (v : Verdict) → ask_room m (length work₀) ≡ Passed → AsksTree m t work₀ v work → AcceptsTree m t work₀ (answered v (record { mesh = m; tree = t })) work
+unfolding check_verdict work_left written
+asked m t work₀ work v e tree = record { answer = rw (e, tree.answer); work = rw (e, zeros_left m (ask_tree m t)) tree.work }
 
 -- what is known once 1 to 6 are passed
 passed : (c : In_ok-accepted) → (ask_room c.args.mesh.now (length c.args.work.now) ≡ Passed) × (c.in_ok-accepted.accepted ≡ c.args.mesh.now)

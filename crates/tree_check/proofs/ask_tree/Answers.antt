@@ -10,7 +10,8 @@ use Rattle.refusal.specs.declared.Refusal.TheVariants as Refusals
 use Rattle.refusal.specs.Verdicts.{ask}
 use Rattle.mesh.specs.Mesh.{Mesh}
 use Rattle.tree.specs.Tree.{Tree}
-use Rattle.tree_check.specs.Check.{ask_tree, Keeps, AsksTree}
+use Rattle.tree_check.specs.Check.{ask_tree}
+use Rattle.tree_check.specs.steps.CheckSteps.{Keeps, AsksTree}
 use Rattle.tree_check.proofs.ask_tree.Goals as goal
 
 answered : (m : Mesh) (t : Tree) (work₀ counted work : List ℕ) (result kept : Bool) → result ≡ kept → Keeps m t work₀ result counted → work ≡ over (replicate (length m.corners) 0) counted

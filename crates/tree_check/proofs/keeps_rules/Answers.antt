@@ -9,14 +9,14 @@ use lib.Dec.{eqb}
 use lib.ListN.{length, drop}
 use lib.Seq.{drop-drop}
 use borrow.Author.Tests.{eqb-true}
-use Rattle.refusal.specs.Verdicts.{both}
-use Rattle.tree.specs.Once.{once_below_lem}
-use Rattle.tree.specs.Counting.{once_below, CountsOnce}
-use Rattle.mesh_questions.specs.Accepted.{Accepted}
+use Rattle.refusal.specs.laws.VerdictLaws.{both}
+use Rattle.tree.specs.laws.Once.{once_below_lem}
+use Rattle.tree.specs.steps.Counting.{once_below, CountsOnce}
+use Rattle.mesh_questions.specs.steps.Accepted.{Accepted}
 use Rattle.mesh.specs.Mesh.{Mesh, triangle_count}
 use Rattle.tree.specs.Tree.{Tree, node_count}
-use Rattle.tree.specs.TreeTest.{Lent, root_test, tree_test, triangle_count_accepted}
-use Rattle.tree.specs.TreeTheorem.{once_sound}
+use Rattle.tree.specs.steps.TreeTest.{Fitting, root_test, tree_test}
+use Rattle.tree.specs.laws.TreeTheorem.{once_sound}
 use Rattle.tree_check.proofs.keeps_rules.Goals.{After-items_once}
 use Rattle.tree_check.proofs.keeps_rules.Goals as goal
 
@@ -33,20 +33,17 @@ module _ (m : Mesh) (t : Tree) (accepted : Accepted m.coords m.corners m.ends) w
 
   -- the test of the items
   abbrev once : Bool
-  once = eqb (length t.items) (length m.corners - 2 * length m.ends) && once_below (length m.corners - 2 * length m.ends) t.items
-
-  all : triangle_count m ≡ length m.corners - 2 * length m.ends
-  all = omega (arith, triangle_count_accepted m accepted)
+  once = eqb (length t.items) (triangle_count m) && once_below (triangle_count m) t.items
 
   -- the tests one after the other
   tested : tree_test m t ≡ (fit && once && root_test m t)
   unfolding tree_test
-  tested = rw (all, and_assoc fit)
+  tested = rw (and_assoc fit)
 
-  lent : fit ≡ true → once ≡ true → Lent m t
+  lent : fit ≡ true → once ≡ true → Fitting m t
   lent f o =
       let lengths = both (eqb (length t.boxes) (6 * node_count t)) _ f in
-      let counts = both (eqb (length t.items) (length m.corners - 2 * length m.ends)) _ o in
+      let counts = both (eqb (length t.items) (triangle_count m)) _ o in
       record {
         boxes = eqb-true _ _ lengths.0;
         nodes = eqb-true _ _ lengths.1;
@@ -54,8 +51,8 @@ module _ (m : Mesh) (t : Tree) (accepted : Accepted m.coords m.corners m.ends) w
       }
 
   -- what the work places hold behind those that are needed
-  rest : (work₀ work : List ℕ) (result : Bool) → CountsOnce t.items (length m.corners - 2 * length m.ends) work₀ result work → drop (length m.corners) work ≡ drop (length m.corners) work₀
-  rest work₀ work result counted = agree_later (length m.corners - 2 * length m.ends) (length m.corners) work work₀ (omega arith) counted.rest
+  rest : (work₀ work : List ℕ) (result : Bool) → CountsOnce t.items (triangle_count m) work₀ result work → drop (length m.corners) work ≡ drop (length m.corners) work₀
+  rest work₀ work result counted = agree_later (triangle_count m) (length m.corners) work work₀ (omega arith) counted.rest
 
 -- what is known once the items are counted
 module _ (c : After-items_once) where
@@ -66,7 +63,7 @@ module _ (c : After-items_once) where
   unfolding node_count
   fits = sym c.lengths_fit.ensures ∙ c.if-not-lengths_fit.false
 
-  counted : CountsOnce c.args.tree.now.items (length c.args.mesh.now.corners - 2 * length c.args.mesh.now.ends) c.args.work.now c.items_once.result c.items_once.new.work
+  counted : CountsOnce c.args.tree.now.items (triangle_count c.args.mesh.now) c.args.work.now c.items_once.result c.items_once.new.work
   counted = rw (c.triangle_count-triangles.ensures.count, ap (λ (t : Tree). t.items) c.tree.view_is) at c.items_once.ensures
 
 pub returns-then-not-lengths_fit : goal.returns-then-not-lengths_fit

@@ -8,9 +8,9 @@ use lib.Ieee.{Float}
 use lib.ListN.{length}
 use Rattle.math.specs.declared.Vec3.{Vec3}
 use Rattle.weld.specs.Welding.{add, add_all}
-use Rattle.weld.specs.Steps.{first, Adds, AddsThree}
-use Rattle.weld.specs.Finding.{length_add}
-use Rattle.weld.specs.Lists.{length_first, first_over, over_numbers}
+use Rattle.weld.specs.steps.WeldSteps.{first, Adds, AddsThree}
+use Rattle.weld.specs.laws.Finding.{length_add}
+use Rattle.weld.specs.laws.WrittenLists.{length_first, first_over, over_numbers}
 use Rattle.weld.proofs.add_corners.Goals as goal
 
 module _ {vs : List Vec3} {l : List Float} {p : Vec3} {r n : ℕ} {l' : List Float} (one : Adds vs l p r n l') where
@@ -48,7 +48,15 @@ add_vertex-b-requires c =
 pub add_vertex-c-requires : goal.add_vertex-c-requires
 add_vertex-c-requires c =
     let a = c.args in
-    omega (arith, adds_count c.add_vertex-a.ensures, adds_count (adds_two c.add_vertex-a.ensures c.add_vertex-b.ensures), length_first a.count.now a.coords.now (omega arith), c.add_vertex-a.ensures.count, c.add_vertex-a.auto.coords, c.add_vertex-b.auto.coords)
+    omega (
+      arith,
+      adds_count c.add_vertex-a.ensures,
+      adds_count (adds_two c.add_vertex-a.ensures c.add_vertex-b.ensures),
+      length_first a.count.now a.coords.now (omega arith),
+      c.add_vertex-a.ensures.count,
+      c.add_vertex-a.auto.coords,
+      c.add_vertex-b.auto.coords,
+    )
 
 pub returns : goal.returns
 returns c =

@@ -6,12 +6,12 @@ use mathlib.Core.Path.{◌≡◌, sym, ◌∙◌}
 use mathlib.Core.List.{List, [], ◌∷◌, ◌++◌}
 use lib.Ieee.{Float}
 use lib.ListN.{length, take, drop, length-append}
-use Rattle.lent.specs.Over.{over_part}
+use Rattle.lent.specs.laws.OverLaws.{over_part}
 use Rattle.math.specs.declared.Vec3.{Vec3}
 use Rattle.weld.specs.Welding.{find, numbers}
-use Rattle.weld.specs.Steps.{first, Adds}
-use Rattle.weld.specs.Finding.{add_found, add_new}
-use Rattle.weld.specs.Lists.{numbers_append, numbers_first, over_first, length_first}
+use Rattle.weld.specs.steps.WeldSteps.{first, Adds}
+use Rattle.weld.specs.laws.Finding.{add_found, add_new}
+use Rattle.weld.specs.laws.WrittenLists.{numbers_append, numbers_first, over_first, length_first}
 use Rattle.weld.proofs.add_vertex.Goals as goal
 
 module _ (n : ℕ) (l : List Float) (p : Vec3) (room : 3 * n + 2 < length l) where

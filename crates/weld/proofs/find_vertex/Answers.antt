@@ -8,10 +8,11 @@ use Rattle.std.specs.List.{position_or_len}
 use Rattle.std.specs.Simd.{first_chunks}
 use Rattle.std.specs.Prelude.{Float}
 use Rattle.math.specs.declared.Vec3.{Vec3}
-use Rattle.math.specs.Vectors.{vec, at, points, length_points}
+use Rattle.math.specs.Vectors.{vec, at, points}
+use Rattle.math.specs.laws.VectorLaws.{length_points}
 use Rattle.weld.specs.Welding.{same, find}
-use Rattle.weld.specs.Steps.{Finds}
-use Rattle.weld.specs.Finding.{find_le}
+use Rattle.weld.specs.steps.WeldSteps.{Finds}
+use Rattle.weld.specs.laws.Finding.{find_le}
 use Rattle.weld.proofs.find_vertex.Goals as goal
 
 turn : (b : Bool) (m n : ℕ) → m ≡ n → cond (not b) (1 + m) 0 ≡ cond b 0 (n + 1)
@@ -36,6 +37,9 @@ unfolding same at
 returns c =
     let l = c.args.vertices.now in
     let p = c.args.p in
-    let found = position_from_yields_List (λ v. same (at v 0) p) _ _ c.position.result c.position.ensures.ran (YieldsList-from_slice (first_chunks 3 (length l / 3) l) cc) (λ x b q k. search (rules, tests)) in
+    let found =
+    position_from_yields_List (λ v. same (at v 0) p) _ _ c.position.result c.position.ensures.ran
+    (YieldsList-from_slice (first_chunks 3 (length l / 3) l) (c.iter.ensures.rest ∙ c.as_chunks.ensures.front))
+    (λ x b q k. search (rules, tests)) in
     let long = rw c.as_chunks.ensures.front at c.as_chunks.ensures.front_len in
     finds_from _ (points l) p _ _ _ refl found (finds_at p l) (long ∙ sym (length_points l))

@@ -10,18 +10,18 @@ use Rattle.lent.specs.Over.{over}
 use Rattle.refusal.specs.declared.Refusal.{Refusal}
 use Rattle.refusal.specs.Verdicts.{Passed, written}
 use Rattle.weld.specs.declared.Counts.{Counts}
-use Rattle.weld.specs.Questions.{verdict, Welds}
-use Rattle.weld.specs.Steps.{WeldsAll}
-use Rattle.weld.specs.Passed.{triangles_passed}
+use Rattle.weld.specs.WeldQuestions.{weld_verdict, Welds}
+use Rattle.weld.specs.steps.WeldSteps.{WeldsAll}
+use Rattle.weld.specs.laws.Passed.{triangles_passed}
 use Rattle.weld.proofs.from_triangles.Goals as goal
 
-refused : (triangles coords : List Float) (corners ends : List ℕ) (refusal : Refusal) → verdict triangles coords corners ends ≡ Err refusal
+refused : (triangles coords : List Float) (corners ends : List ℕ) (refusal : Refusal) → weld_verdict triangles coords corners ends ≡ Err refusal
     → Welds triangles coords corners ends (Err refusal) coords corners ends
 unfolding written over
 refused triangles coords corners ends refusal e = record { answer = rw e; coords = rw e; corners = rw e; ends = rw e }
 
 passed : (triangles coords : List Float) (corners ends : List ℕ) (counts : Counts) (coords' : List Float) (corners' ends' : List ℕ)
-    → verdict triangles coords corners ends ≡ Passed
+    → weld_verdict triangles coords corners ends ≡ Passed
     → WeldsAll triangles coords corners ends counts coords' corners' ends'
     → Welds triangles coords corners ends (Ok counts) coords' corners' ends'
 unfolding written

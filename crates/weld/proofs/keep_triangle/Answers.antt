@@ -5,10 +5,10 @@ use mathlib.Core.Path.{◌≡◌, sym}
 use mathlib.Core.List.{List, [], ◌∷◌, ◌++◌, append-nil}
 use native.Mathlib.Omega.{arith}
 use lib.ListN.{length, take, drop, set}
-use Rattle.lent.specs.Over.{over_own, over_stores, over_part}
+use Rattle.lent.specs.laws.OverLaws.{over_own, over_stores, over_part}
 use Rattle.mesh.specs.declared.Triangle.{Triangle}
 use Rattle.weld.specs.Welding.{degenerate, kept, corners_of, ends_from}
-use Rattle.weld.specs.Steps.{Keeps}
+use Rattle.weld.specs.steps.WeldSteps.{Keeps}
 use Rattle.weld.proofs.keep_triangle.Goals as goal
 
 -- of a degenerate triangle nothing is written

@@ -4,7 +4,7 @@ use Rattle.std.specs.Prelude.{Float}
 use Rattle.std.specs.Float.{nan}
 use Rattle.std.specs.Simd.{first_chunks}
 use Rattle.math.specs.Vectors.{at}
-use Rattle.weld.specs.Passed.{whole_passed, room_passed}
+use Rattle.weld.specs.laws.Passed.{whole_passed, room_passed}
 use Rattle.weld.proofs.Walk.{done_none, done_next, done_all, length_vertices_to, length_faces_to}
 use Rattle.weld.proofs.weld_all.Goals as goal
 

@@ -2,21 +2,21 @@
 use Rattle.std.proofs.Common.{◌≡◌, ◌≤◌, length, sym, arith}
 use lib.Seq.{length-take-le}
 use Rattle.std.proofs.lemmas.Result.{err_from_is_err_and}
-use Rattle.refusal.specs.Verdicts.{Passed, answered_ok, answered_err}
+use Rattle.refusal.specs.Verdicts.{Passed}
+use Rattle.refusal.specs.laws.VerdictLaws.{answered_ok, answered_err}
 use Rattle.mesh.specs.Mesh.{triangle_count}
-use Rattle.tree.specs.TreeTest.{triangle_count_accepted}
-use Rattle.bvh.specs.Build.{verdict}
-use Rattle.bvh.specs.BuildLaws.{rooms, builds_refused, builds_none, builds_room, builds_all}
+use Rattle.bvh.specs.Build.{build_verdict}
+use Rattle.bvh.specs.laws.BuildLaws.{rooms, builds_refused, builds_none, builds_room, builds_all}
 use Rattle.bvh.proofs.build.build.Goals as goal
 use Rattle.bvh.proofs.build.build.Goals.{After-triangle_count-triangles}
 
 -- the questions passed, the accepted mesh is the lent one, and how many triangles it has
-passed : (c : After-triangle_count-triangles) → (verdict c.args.mesh.now c.args.boxes.now c.args.nodes.now c.args.items.now ≡ Passed) × (c.in_ok-mesh.mesh ≡ c.args.mesh.now) × (c.triangle_count-triangles.result ≡ triangle_count c.args.mesh.now)
+passed : (c : After-triangle_count-triangles)
+    → (build_verdict c.args.mesh.now c.args.boxes.now c.args.nodes.now c.args.items.now ≡ Passed) × (c.in_ok-mesh.mesh ≡ c.args.mesh.now)
+    × (c.triangle_count-triangles.result ≡ triangle_count c.args.mesh.now)
 passed c =
     let parts = answered_ok _ _ _ (sym c.in_ok-mesh.ensures) in
-    let said = c.triangle_count-triangles.ensures in
-    let count : c.triangle_count-triangles.result ≡ triangle_count c.in_ok-mesh.mesh = omega (arith, said.count, triangle_count_accepted c.in_ok-mesh.mesh said.accepted) in
-    (parts.0, parts.1, rw parts.1 at count)
+    (parts.0, parts.1, rw parts.1 at c.triangle_count-triangles.ensures.count)
 
 -- there is an item place for each triangle
 places : (c : After-triangle_count-triangles) → c.triangle_count-triangles.result ≤ length c.args.items.now

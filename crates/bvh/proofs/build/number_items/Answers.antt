@@ -1,7 +1,7 @@
 use Rattle.std.proofs.Common.{◌≡◌, length, arith}
 use lib.Seq.{ext_get_or}
 use Rattle.mesh.specs.Mesh.{numbers}
-use Rattle.tree.specs.Numbers.{length_numbers, get_d_numbers}
+use Rattle.tree.specs.laws.NumberLaws.{length_numbers, get_d_numbers}
 use Rattle.bvh.proofs.build.number_items.Goals as goal
 
 pub returns : goal.returns

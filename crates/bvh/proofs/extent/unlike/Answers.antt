@@ -1,5 +1,5 @@
 -- Written out, so that a wrong `unlike` is refused at once.
-use Rattle.bvh.specs.Extent.{unlike}
+use Rattle.bvh.specs.steps.Extent.{unlike}
 use Rattle.bvh.proofs.extent.unlike.Goals as goal
 
 pub returns : goal.returns

@@ -1,8 +1,8 @@
 -- `build_node` meets its contract: a leaf is written, or the halves are, one after the other, and then the node. The number of items falls.
 use Rattle.std.proofs.Common.{ℕ, ◌+◌, ◌/◌, length, take, drop, refl, arith}
-use Rattle.mesh.specs.Axes.{place}
-use Rattle.bvh.specs.Subtree.{Writes}
-use Rattle.bvh.specs.SubtreeLaws.{Halved, room_one, left_room, right_room, written_items, first_bounds, second_bounds, halves_places, small_node, inner_writes}
+use Rattle.mesh.specs.steps.Axes.{place}
+use Rattle.bvh.specs.steps.Subtree.{Writes}
+use Rattle.bvh.specs.laws.SubtreeLaws.{Halved, room_one, left_room, right_room, written_items, first_bounds, second_bounds, halves_places, small_node, inner_writes}
 use Rattle.bvh.proofs.subtree.+build_node.Goals as goal
 use Rattle.bvh.proofs.subtree.+build_node.Goals.{After-halve, After-build_node-left, After-build_node-right}
 
@@ -11,10 +11,15 @@ halved : (t : ℕ) (c : After-halve t) → Halved c.args.mesh.now (place c.split
 halved t c = record { room = c.requires; many = c.if-items-le4.false; axis_is = c.split-split.ensures; split = c.halve.ensures.halves; small = c.halve.ensures.small }
 
 -- what is written of the left half, and of the right half
-left : (t : ℕ) (c : After-build_node-left t) → Writes c.args.mesh.now c.args.boxes.now c.args.nodes.now (take (length c.args.items.now / 2) c.halve.new.items) (c.args.n + 1) c.args.i c.build_node-left.result c.build_node-left.new.boxes c.build_node-left.new.nodes c.build_node-left.new.items
+left : (t : ℕ) (c : After-build_node-left t)
+    → Writes c.args.mesh.now c.args.boxes.now c.args.nodes.now (take (length c.args.items.now / 2) c.halve.new.items) (c.args.n + 1) c.args.i
+    c.build_node-left.result c.build_node-left.new.boxes c.build_node-left.new.nodes c.build_node-left.new.items
 left t c = rw c.split_at_mut-front.ensures.front at c.build_node-left.ensures
 
-right : (t : ℕ) (c : After-build_node-right t) → Writes c.args.mesh.now c.build_node-left.new.boxes c.build_node-left.new.nodes (drop (length c.args.items.now / 2) c.halve.new.items) c.build_node-left.result.end (c.args.i + length c.args.items.now / 2) c.build_node-right.result c.build_node-right.new.boxes c.build_node-right.new.nodes c.build_node-right.new.items
+right : (t : ℕ) (c : After-build_node-right t)
+    → Writes c.args.mesh.now c.build_node-left.new.boxes c.build_node-left.new.nodes (drop (length c.args.items.now / 2) c.halve.new.items)
+    c.build_node-left.result.end (c.args.i + length c.args.items.now / 2)
+    c.build_node-right.result c.build_node-right.new.boxes c.build_node-right.new.nodes c.build_node-right.new.items
 right t c = rw c.split_at_mut-front.ensures.back at c.build_node-right.ensures
 
 pub build_node-left-requires : goal.build_node-left-requires

@@ -1,10 +1,10 @@
 -- `build_leaf` meets its contract: the calls promise its parts, and sorting keeps the items.
 use Rattle.std.proofs.Common.{refl, ap, ◌∙◌, arith}
 use Rattle.keys.specs.Sorting.{sorted}
-use Rattle.keys.specs.SortingTheorems.{length_sorted, sorted_permutation}
-use Rattle.bvh.specs.Node.{items_permuted}
+use Rattle.keys.specs.laws.SortingTheorems.{length_sorted, sorted_permutation}
+use Rattle.bvh.specs.laws.NodeLaws.{items_permuted}
 use Rattle.builder.specs.Builder.{node_box}
-use Rattle.bvh.specs.SubtreeLaws.{room_one, leaf_writes}
+use Rattle.bvh.specs.laws.SubtreeLaws.{room_one, leaf_writes}
 use Rattle.bvh.proofs.subtree.build_leaf.Goals as goal
 
 pub joined_boxes-bounds-requires : goal.joined_boxes-bounds-requires

@@ -1,7 +1,7 @@
 -- `put_box` meets its contract: six floats are copied over those of the node.
 use Rattle.std.proofs.Common.{◌+◌, ◌-◌, ◌*◌, ◌≡◌, arith}
 use Rattle.builder.specs.Builder.{edges}
-use Rattle.bvh.specs.SubtreeLaws.{sets_copied}
+use Rattle.bvh.specs.laws.SubtreeLaws.{sets_copied}
 use Rattle.bvh.proofs.subtree.put_box.Goals as goal
 
 pub returns : goal.returns

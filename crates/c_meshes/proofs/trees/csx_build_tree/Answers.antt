@@ -1,6 +1,6 @@
 -- `csx_build_tree` meets its contract: `build` promises its answer and the buffers, and the number that stands for the answer is returned.
 use Rattle.std.proofs.Common.{◌∙◌, rules, tests}
-use Rattle.refusal.specs.Returned.{number_answered}
+use Rattle.refusal.specs.laws.Returned.{number_answered}
 use Rattle.c_meshes.proofs.trees.csx_build_tree.Goals as goal
 
 pub returns : goal.returns

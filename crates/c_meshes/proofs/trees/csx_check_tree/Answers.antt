@@ -1,6 +1,6 @@
 -- `csx_check_tree` meets its contract: `check_tree` promises the verdict and the work places, and the verdict's number is returned.
 use Rattle.std.proofs.Common.{◌∙◌, rules, tests}
-use Rattle.refusal.specs.Returned.{number_verdict}
+use Rattle.refusal.specs.laws.Returned.{number_verdict}
 use Rattle.c_meshes.proofs.trees.csx_check_tree.Goals as goal
 
 pub returns : goal.returns

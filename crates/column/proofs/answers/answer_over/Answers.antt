@@ -3,7 +3,7 @@ use native.Mathlib.Omega.{arith}
 use mathlib.Core.Path.{refl, ap}
 use lib.ListN.{length, length-take}
 use Rattle.mesh.specs.Mesh.{Mesh}
-use Rattle.column.specs.AnswerLaws.{not_refused, few_nodes, boxes_found, node_numbers_found, items_found, answers_found}
+use Rattle.column.specs.laws.AnswerLaws.{not_refused, few_nodes, boxes_found, node_numbers_found, items_found, answers_found}
 use Rattle.column.proofs.answers.answer_over.Goals as goal
 
 pub overflow_mul-tree : goal.overflow_mul-tree

@@ -6,7 +6,7 @@ use Rattle.float.proofs.remainder.pattern_of_size.Goals as goal
 
 -- what the digits are once they are moved
 moved : (c : After-min-places) → Placed c.args.size.digits c.args.size.exponent c.min-places.result
-moved c = placed c.args.size.digits c.args.size.exponent c.min-places.result c.from.result (omega arith) c.requires.digits_fit (cc) c.min-places.ensures
+moved c = placed c.args.size.digits c.args.size.exponent c.min-places.result c.from.result (omega arith) c.requires.digits_fit c.from.ensures c.min-places.ensures
 
 pub returns-then-size-eq0-clause-size : goal.returns-then-size-eq0-clause-size
 returns-then-size-eq0-clause-size c = no_parts c.args.size.digits c.args.size.exponent c.if-size-eq0.true

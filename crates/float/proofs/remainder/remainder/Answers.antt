@@ -6,8 +6,8 @@ use Rattle.std.specs.Float.{nan, binary64}
 use Rattle.std.specs.Float.Ieee.{fits, of_bits}
 use Rattle.std.specs.Float.Ieee.Bits.{to_bits-lt}
 use Rattle.std.proofs.lemmas.Float.{not_nan_f64_bits}
-use Rattle.float.specs.Patterns.{nan_only}
-use Rattle.float.specs.OrderTheorems.Pattern.{rest}
+use Rattle.float.specs.laws.Patterns.{nan_only}
+use Rattle.float.specs.laws.OrderTheorems.Pattern.{rest}
 use Rattle.float.proofs.Rests.{parts_size, ordered, has_size, left_few, left_parts, rem_of_nan, rem_by_nan, infinite, by_zero, smaller, left_over}
 use Rattle.float.proofs.remainder.remainder.Goals as goal
 

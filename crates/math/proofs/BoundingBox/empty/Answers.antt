@@ -1,6 +1,6 @@
 -- `BoundingBox::empty` meets its contract: the pattern of `f64::INFINITY` is that of +∞.
 use lib.Ieee.{of_bits, neg}
-use Rattle.math.specs.Boxes.{empty}
+use Rattle.math.specs.BoundingBoxes.{empty}
 use Rattle.math.proofs.BoundingBox.empty.Goals as goal
 
 pub returns : goal.returns

@@ -1,6 +1,6 @@
 -- Written out, so that a wrong `BoundingBox::is_empty` is refused at once.
 use Rattle.std.proofs.Common.{refl}
-use Rattle.math.specs.Boxes.{is_empty}
+use Rattle.math.specs.BoundingBoxes.{is_empty}
 use Rattle.math.proofs.BoundingBox.is_empty.Goals as goal
 
 pub returns : goal.returns

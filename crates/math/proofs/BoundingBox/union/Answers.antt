@@ -1,6 +1,6 @@
 -- Written out, so that a wrong `BoundingBox::union` is refused at once.
 use Rattle.std.proofs.Common.{sym, ◌∙◌}
-use Rattle.math.specs.Boxes.{union}
+use Rattle.math.specs.BoundingBoxes.{union}
 use Rattle.math.proofs.BoundingBox.union.Goals as goal
 
 pub returns-then-is_empty : goal.returns-then-is_empty

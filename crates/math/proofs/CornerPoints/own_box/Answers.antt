@@ -1,5 +1,5 @@
 -- `CornerPoints::own_box` meets its contract: the definition finds the same lowest and highest numbers, axis by axis.
-use Rattle.math.specs.Corners.{box_by_axes, x_numbers, y_numbers, z_numbers}
+use Rattle.math.specs.laws.CornerLaws.{box_by_axes, x_numbers, y_numbers, z_numbers}
 use Rattle.math.proofs.CornerPoints.own_box.Goals as goal
 
 pub lowest-requires : goal.lowest-requires

@@ -1,8 +1,7 @@
 -- Written out, so that a wrong `Vec3::cross` is refused at once.
-use Rattle.std.proofs.Common.{refl}
 use Rattle.math.specs.Vectors.{cross}
 use Rattle.math.proofs.Vec3.cross.Goals as goal
 
 pub returns : goal.returns
 unfolding cross
-returns c = refl
+returns c = c.new.ensures

@@ -1,8 +1,7 @@
 -- Written out, so that a wrong `Vec3FromArrayF643::from` is refused at once.
-use Rattle.std.proofs.Common.{refl}
 use Rattle.math.specs.Vectors.{at}
 use Rattle.math.proofs.Vec3FromArrayF643.from.Goals as goal
 
 pub returns : goal.returns
 unfolding at
-returns c = refl
+returns c = c.new.ensures

@@ -1,8 +1,7 @@
 -- Written out, so that a wrong `Vec3Sub::sub` is refused at once.
-use Rattle.std.proofs.Common.{refl}
 use Rattle.math.specs.Vectors.{sub}
 use Rattle.math.proofs.Vec3Sub.sub.Goals as goal
 
 pub returns : goal.returns
 unfolding sub
-returns c = refl
+returns c = c.new.ensures

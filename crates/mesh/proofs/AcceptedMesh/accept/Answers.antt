@@ -1,7 +1,7 @@
 -- `AcceptedMesh::accept` meets its contract: questions 1 to 5 let the mesh pass.
 use mathlib.Core.Path.{sym}
 use Rattle.std.proofs.lemmas.Result.{err_from_is_err_and}
-use Rattle.mesh_questions.specs.Accepted.{asked, asked_passed, asked_refused}
+use Rattle.mesh_questions.specs.laws.AcceptedLaws.{asked, asked_passed, asked_refused}
 use Rattle.mesh.proofs.AcceptedMesh.accept.Goals as goal
 
 pub returns-in_err-ask : goal.returns-in_err-ask

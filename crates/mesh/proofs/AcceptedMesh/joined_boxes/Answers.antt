@@ -3,9 +3,9 @@ use native.Mathlib.Omega.{arith}
 use mathlib.Core.Path.{sym, ◌∙◌}
 use lib.ListN.{length, take, drop, length-drop, drop_of_length-le}
 use Rattle.std.proofs.Common.{get_or-drop}
-use Rattle.mesh.specs.Items.{behind}
+use Rattle.mesh.specs.laws.ItemLaws.{behind}
 use Rattle.mesh.specs.Mesh.{join_all}
-use Rattle.mesh.specs.MeshLaws.{node_box_first, join_all_next}
+use Rattle.mesh.specs.laws.MeshLaws.{node_box_first, join_all_next}
 use Rattle.mesh.proofs.AcceptedMesh.joined_boxes.Goals as goal
 
 pub loop-t-init : goal.loop-t-init

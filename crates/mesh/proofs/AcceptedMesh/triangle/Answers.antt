@@ -1,7 +1,7 @@
 -- `AcceptedMesh::triangle` meets its contract: the faces of an accepted mesh are wide, and the corners of their triangles finite vertices.
-use Rattle.mesh_questions.specs.Accepted.{fanned}
+use Rattle.mesh_questions.specs.laws.AcceptedLaws.{fanned}
 use Rattle.mesh.specs.Triangles.{triangle}
-use Rattle.mesh.specs.Corners.{triangle_corners, triangle_finite}
+use Rattle.mesh.specs.laws.CornerLaws.{triangle_corners, triangle_finite}
 use Rattle.mesh.proofs.AcceptedMesh.triangle.Goals as goal
 
 pub triangle-requires : goal.triangle-requires

@@ -1,6 +1,6 @@
 -- `AcceptedMesh::triangle_count` meets its contract: each face of an accepted mesh has three corners.
 use native.Mathlib.Omega.{arith}
-use Rattle.mesh_questions.specs.Accepted.{wide_corners}
+use Rattle.mesh_questions.specs.laws.AcceptedLaws.{wide_corners}
 use Rattle.mesh.proofs.AcceptedMesh.triangle_count.Goals as goal
 
 pub overflow_sub-result : goal.overflow_sub-result

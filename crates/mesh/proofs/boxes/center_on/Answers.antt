@@ -1,6 +1,7 @@
 -- `center_on` meets its contract: a triangle's centre on one axis depends on that axis alone.
-use Rattle.mesh.specs.Axes.{place, place_lt}
-use Rattle.mesh.specs.Centers.{first_two, center_on_lem}
+use Rattle.mesh.specs.steps.Axes.{place}
+use Rattle.mesh.specs.laws.AxisLaws.{place_lt}
+use Rattle.mesh.specs.laws.Centers.{first_two, center_on_lem}
 use Rattle.mesh.proofs.boxes.center_on.Goals as goal
 
 pub lowest-requires : goal.lowest-requires

@@ -1,5 +1,5 @@
 -- Written out, so that a wrong `boxes::surface_eps` is refused at once.
-use Rattle.mesh.specs.Boxes.{surface_eps}
+use Rattle.mesh.specs.MeshBoxes.{surface_eps}
 use Rattle.mesh.proofs.boxes.surface_eps.Goals as goal
 
 pub returns : goal.returns

@@ -5,8 +5,8 @@ use mathlib.Core.Bool.{true, false}
 use lib.Dec.{eqb}
 use lib.ListN.{get_or, drop_of_length-le}
 use borrow.Author.Tests.{eq-eqb, ne_eqb}
-use Rattle.mesh.specs.Triangles.{equal_faces}
-use Rattle.mesh.specs.TriangleLaws.{equal_faces_next}
+use Rattle.mesh.specs.steps.Fans.{equal_faces}
+use Rattle.mesh.specs.laws.TriangleLaws.{equal_faces_next}
 use Rattle.mesh.proofs.triangles.equal_faces.Goals as goal
 
 pub overflow_add-start : goal.overflow_add-start

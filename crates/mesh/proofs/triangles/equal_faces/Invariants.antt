@@ -2,7 +2,7 @@
 use Prim.Native.Nat.{◌<◌}
 use mathlib.Core.Path.{◌≡◌}
 use lib.ListN.{drop}
-use Rattle.mesh.specs.Triangles.{equal_faces}
+use Rattle.mesh.specs.steps.Fans.{equal_faces}
 use Rattle.mesh.proofs.triangles.equal_faces.Given as goal
 
 abbrev pub invariant-loop-end : goal.invariant-loop-end

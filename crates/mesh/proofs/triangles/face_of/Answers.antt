@@ -2,8 +2,8 @@
 use Prim.Native.Nat.{◌+◌, ◌*◌, ◌<◌}
 use native.Mathlib.Omega.{arith}
 use lib.ListN.{length}
-use Rattle.mesh.specs.Triangles.{start_from}
-use Rattle.mesh.specs.TriangleLaws.{some_face}
+use Rattle.mesh.specs.steps.Fans.{start_from}
+use Rattle.mesh.specs.laws.TriangleLaws.{some_face}
 use Rattle.mesh.proofs.triangles.face_of.Goals as goal
 
 pub guess-f-requires : goal.guess-f-requires

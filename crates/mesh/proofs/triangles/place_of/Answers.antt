@@ -1,6 +1,6 @@
 -- `place_of` meets its contract: where all faces have three corners, or four, the face is worked out.
 use mathlib.Core.Path.{sym, ◌∙◌}
-use Rattle.mesh.specs.TriangleLaws.{in_triangle, in_quad, placed}
+use Rattle.mesh.specs.laws.TriangleLaws.{in_triangle, in_quad, placed}
 use Rattle.mesh.proofs.triangles.place_of.Goals as goal
 
 pub face_of-f-requires : goal.face_of-f-requires

@@ -1,8 +1,8 @@
 use Prim.Native.Nat.{◌+◌, ◌/◌, ◌-◌}
 use native.Mathlib.Omega.{arith}
 use mathlib.Core.Path.{◌≡◌}
-use Rattle.mesh.specs.Triangles.{start_from}
-use Rattle.mesh.specs.TriangleLaws.{start_from_before, start_from_next, some_face}
+use Rattle.mesh.specs.steps.Fans.{start_from}
+use Rattle.mesh.specs.laws.TriangleLaws.{start_from_before, start_from_next, some_face}
 use Rattle.mesh.proofs.triangles.search.Goals as goal
 
 pub loop-lo-init : goal.loop-lo-init

@@ -2,7 +2,7 @@
 -- distance of the two.
 use Prim.Native.Nat.{◌+◌, ◌*◌, ◌≤◌, ◌<◌, ◌-◌}
 use lib.ListN.{length}
-use Rattle.mesh.specs.Triangles.{start_from}
+use Rattle.mesh.specs.steps.Fans.{start_from}
 use Rattle.mesh.proofs.triangles.search.Given as goal
 
 abbrev pub invariant-loop-lo : goal.invariant-loop-lo

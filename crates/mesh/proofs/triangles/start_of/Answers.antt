@@ -2,8 +2,8 @@
 use Prim.Native.Nat.{◌-◌}
 use native.Mathlib.Omega.{arith}
 use mathlib.Core.Path.{sym}
-use Rattle.mesh.specs.Triangles.{start_from}
-use Rattle.mesh.specs.TriangleLaws.{start_from_before}
+use Rattle.mesh.specs.steps.Fans.{start_from}
+use Rattle.mesh.specs.laws.TriangleLaws.{start_from_before}
 use Rattle.mesh.proofs.triangles.start_of.Goals as goal
 
 pub returns-then-f-eq0 : goal.returns-then-f-eq0

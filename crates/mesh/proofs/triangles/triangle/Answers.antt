@@ -2,7 +2,7 @@
 use native.Mathlib.Omega.{arith}
 use mathlib.Core.Path.{sym, ◌∙◌}
 use Rattle.mesh.specs.Triangles.{triangle}
-use Rattle.mesh.specs.TriangleLaws.{triangles_at, in_corners}
+use Rattle.mesh.specs.laws.TriangleLaws.{triangles_at, in_corners}
 use Rattle.mesh.proofs.triangles.triangle.Goals as goal
 
 pub fan_triangle-requires : goal.fan_triangle-requires

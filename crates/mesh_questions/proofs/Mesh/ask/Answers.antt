@@ -3,12 +3,12 @@
 use native.Mathlib.Omega.{arith}
 use mathlib.Core.Path.{◌≡◌, sym}
 use Rattle.refusal.specs.Verdicts.{Passed}
-use Rattle.mesh_questions.specs.Questions.{ask_mesh}
-use Rattle.mesh_questions.specs.Accepted.{wide_corners, lengths_of, accepted}
+use Rattle.mesh_questions.specs.MeshQuestions.{ask_mesh}
+use Rattle.mesh_questions.specs.laws.AcceptedLaws.{wide_corners, lengths_of, accepted}
 use Rattle.mesh_questions.proofs.Mesh.ask.Goals as goal
 
 pub ask_parts-requires : goal.ask_parts-requires
-ask_parts-requires c = (lengths_of 262144 _ _ _ (sym c.in_ok-ask_lengths.ensures)).0
+ask_parts-requires c = lengths_of _ _ _ (sym c.in_ok-ask_lengths.ensures)
 
 pub overflow_sub-result : goal.overflow_sub-result
 unfolding ask_mesh

@@ -1,12 +1,12 @@
 -- By cases of what the call answers.
 use Rattle.std.proofs.Common.{length, arith, sym, ◌∙◌}
 use borrow.Author.Tests.{le-leb, lt-leb}
-use Rattle.lent.specs.Over.{over_nothing}
+use Rattle.lent.specs.laws.OverLaws.{over_nothing}
 use Rattle.refusal.specs.Verdicts.{written}
 use Rattle.text.specs.Listing.{header}
-use Rattle.text.specs.ListingLaws.{length_line}
+use Rattle.text.specs.laws.ListingLaws.{length_line}
 use Rattle.column.specs.Column.{column_answer}
-use Rattle.refusal.specs.Verdicts.{answered_ok, answered_err}
+use Rattle.refusal.specs.laws.VerdictLaws.{answered_ok, answered_err}
 use Rattle.point_list.specs.Printed.{answer_or, printed}
 use Rattle.point_list.proofs.work.listing_of.Goals as goal
 

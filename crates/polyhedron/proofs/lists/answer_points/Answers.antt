@@ -2,8 +2,8 @@ use Prim.Native.Nat.{◌/◌}
 use native.Mathlib.Omega.{arith}
 use mathlib.Core.Path.{◌≡◌, refl, sym, ◌∙◌}
 use lib.ListN.{length, length-set}
-use Rattle.lent.specs.Over.{over_nothing}
-use Rattle.polyhedron.specs.ListLaws.{answers_next, answers_all}
+use Rattle.lent.specs.laws.OverLaws.{over_nothing}
+use Rattle.polyhedron.specs.laws.ListLaws.{answers_next, answers_all}
 use Rattle.polyhedron.proofs.lists.answer_points.Goals as goal
 
 pub loop-i-init : goal.loop-i-init

@@ -2,7 +2,7 @@
 use mathlib.Core.Path.{◌≡◌}
 use lib.ListN.{length, take}
 use Rattle.lent.specs.Over.{over}
-use Rattle.polyhedron.specs.Lists.{answers_to}
+use Rattle.polyhedron.specs.PointLists.{answers_to}
 use Rattle.polyhedron.proofs.lists.answer_points.Given as goal
 
 abbrev pub invariant-loop-i : goal.invariant-loop-i

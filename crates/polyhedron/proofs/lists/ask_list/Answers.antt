@@ -2,9 +2,9 @@
 use Rattle.std.proofs.Common.{◌≡◌, true, length, sym, ◌∙◌}
 use Rattle.refusal.specs.declared.Refusal.TheVariants.{Point}
 use Rattle.math.specs.Vectors.{points}
-use Rattle.mesh_questions.specs.QuestionLaws.{ask_finite_found}
-use Rattle.polyhedron.specs.Lists.{list_fits, ask_points, ask_list}
-use Rattle.polyhedron.specs.ListLaws.{list_short}
+use Rattle.mesh_questions.specs.laws.QuestionLaws.{ask_finite_found}
+use Rattle.polyhedron.specs.PointLists.{list_fits, ask_points, ask_list}
+use Rattle.polyhedron.specs.laws.ListLaws.{list_short}
 use Rattle.polyhedron.proofs.lists.ask_list.Goals as goal
 
 pub ask_finite-requires-clause-few : goal.ask_finite-requires-clause-few

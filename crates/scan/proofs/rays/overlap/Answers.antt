@@ -1,8 +1,8 @@
 -- `overlap` meets its contract: a maximum of numbers is a number, so each left side is one.
 use lib.Ieee.{of_bits, is_nan}
 use Rattle.float.specs.Arithmetic.{zero}
-use Rattle.float.specs.Order.{Number, max_number}
-use Rattle.scan.specs.Slabs.{overlap}
+use Rattle.float.specs.laws.Order.{Number, max_number}
+use Rattle.scan.specs.steps.Slabs.{overlap}
 use Rattle.scan.proofs.rays.overlap.Goals as goal
 
 number_zero : Number zero

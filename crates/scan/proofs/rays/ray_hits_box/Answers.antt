@@ -1,5 +1,6 @@
 -- `ray_hits_box` meets its contract: its test is `slab_hits`, which is csx's for a box that is not empty.
-use Rattle.scan.specs.Slabs.{slab_hits, all_numbers, slab_same}
+use Rattle.scan.specs.steps.Slabs.{slab_hits}
+use Rattle.scan.specs.laws.SlabLaws.{all_numbers, slab_same}
 use Rattle.scan.proofs.rays.ray_hits_box.Goals as goal
 
 pub overlap-requires : goal.overlap-requires

@@ -7,9 +7,10 @@ use Rattle.std.specs.Float.Ieee.{of_bits}
 use Rattle.float.specs.Rules.{min}
 use Rattle.geom.specs.Segments.{dist_point_segment}
 use Rattle.math.specs.declared.Vec3.{Vec3}
-use Rattle.math.specs.Chunks.{at_take, points_of_chunks}
+use Rattle.math.specs.laws.Chunks.{at_take, points_of_chunks}
 use Rattle.math.specs.Vectors.{at}
-use Rattle.shapes.specs.Polylines.{segments, polyline_dist_point, polyline_dist_segments}
+use Rattle.shapes.specs.Polylines.{segments}
+use Rattle.shapes.specs.laws.PolylineLaws.{polyline_dist_point, polyline_dist_segments}
 use Rattle.shapes.proofs.curve.polyline_dist.Goals as goal
 
 first_point : (n : ℕ) (l : List Float) → n ≡ length l / 3 → 0 < n → at (get_or (first_chunks 3 n l) 0 []) 0 ≡ at l 0
@@ -17,7 +18,9 @@ first_point zero l e h = absurd (omega arith)
 first_point (suc n) l e h = at_take 3 0 l (omega arith)
 
 -- a window takes the segment between its two points in
-next_segment : (p : Vec3) (m : Float) (rest w : List (List Float)) → 2 ≤ length rest → w ≡ take 2 rest → segments p m (map (λ c. at c 0) rest) ≡ segments p (min m (dist_point_segment p (at (get_or w 0 []) 0) (at (get_or w 1 []) 0))) (map (λ c. at c 0) (drop 1 rest))
+next_segment : (p : Vec3) (m : Float) (rest w : List (List Float)) → 2 ≤ length rest → w ≡ take 2 rest
+    → segments p m (map (λ c. at c 0) rest)
+    ≡ segments p (min m (dist_point_segment p (at (get_or w 0 []) 0) (at (get_or w 1 []) 0))) (map (λ c. at c 0) (drop 1 rest))
 unfolding segments
 next_segment p m [] w h e = absurd (omega arith)
 next_segment p m (a ∷ []) w h e = absurd (omega arith)

@@ -3,7 +3,7 @@ use mathlib.Core.Path.{◌≡◌, ap, ◌∙◌}
 use Prim.Native.Nat.{ℕ, ◌+◌, ◌-◌, ◌*◌, ◌/◌, ◌%◌, ◌^◌, ◌≤◌, ◌<◌}
 use native.Mathlib.Omega.{arith}
 use lib.Ieee.{odd}
-use Rattle.float.specs.Patterns.{number_pattern}
+use Rattle.float.specs.laws.Patterns.{number_pattern}
 use Rattle.sqrt.specs.Root.{nearest_root}
 use Rattle.sqrt.proofs.RootBits.{root_digits, normal_pattern}
 use Rattle.sqrt.proofs.Scaled.root.Goals as goal

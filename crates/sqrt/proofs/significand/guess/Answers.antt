@@ -2,8 +2,8 @@
 use mathlib.Core.Path.{◌∙◌, ap}
 use native.Mathlib.Omega.{arith}
 use lib.Ieee.{Float, binary64, of_bits, mul}
-use Rattle.sqrt.specs.Guess.{half, closer, corrected, pattern, guess}
-use Rattle.float.specs.Patterns.{number_pattern}
+use Rattle.sqrt.specs.steps.Guess.{half, closer, corrected, pattern, guess}
+use Rattle.float.specs.laws.Patterns.{number_pattern}
 use Rattle.sqrt.proofs.significand.guess.Goals as goal
 
 pub float_from_bits-x : goal.float_from_bits-x

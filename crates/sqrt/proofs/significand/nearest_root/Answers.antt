@@ -6,7 +6,7 @@ use native.Mathlib.Omega.{arith}
 use Rattle.std.proofs.Common.{rules}
 use Rattle.std.specs.Prelude.{Option, Some, None, MatchOption}
 use Rattle.sqrt.specs.Root.{nearest_root}
-use Rattle.sqrt.specs.Steps.{Finds}
+use Rattle.sqrt.specs.steps.RootSteps.{Finds}
 use Rattle.sqrt.proofs.RootBits.{doubled, twice}
 use Rattle.sqrt.proofs.significand.nearest_root.Goals as goal
 
@@ -22,5 +22,8 @@ either v r (Some q) none f m h = m ∙ f
 pub returns : goal.returns
 returns c =
     let m = 2 ^ 52 + c.args.digits % 2 ^ 52 in
-    either (m * (1 + c.args.odd % 2) * 2 ^ 52) _ c.settle_guess.result _ c.settle_guess.ensures c.unwrap_or_else.ensures (λ p. let d : c.unwrap_or_else.result ≡ nearest_root (m * (1 + c.args.odd % 2) % 2 ^ 54 * 2 ^ 52) = search rules in d ∙ whole c.args.digits c.args.odd)
+    either (m * (1 + c.args.odd % 2) * 2 ^ 52) _ c.settle_guess.result _ c.settle_guess.ensures c.unwrap_or_else.ensures
+    (λ p.
+    let d : c.unwrap_or_else.result ≡ nearest_root (m * (1 + c.args.odd % 2) % 2 ^ 54 * 2 ^ 52) = search rules in
+    d ∙ whole c.args.digits c.args.odd)
     ∙ ap nearest_root (doubled m c.args.odd)

@@ -1,7 +1,7 @@
 -- `read_field` meets its contract: what stands behind the blanks is a number, with a minus in front of it or none (`number_of_next`).
 use Rattle.std.proofs.Common.{◌≡◌, ℕ, ◌-◌, ◌≤◌, ◌<◌, List, [], length, get_or, take, drop, length-drop, drop_of_length-le, take_all, arith, sym, ◌∙◌, eq-eqb, ne_eqb}
 use Rattle.text.specs.Fields.{without_blanks, number_of, field_of}
-use Rattle.text.specs.FieldLaws.{number_of_next}
+use Rattle.text.specs.laws.FieldLaws.{number_of_next}
 use Rattle.text.proofs.fields.read_field.Goals as goal
 
 module _ (field : List ℕ) (i : ℕ) (within : i ≤ length field) (behind : drop i field ≡ without_blanks field) where
@@ -23,7 +23,8 @@ returns-in-45 c =
     let i = c.skip_blanks.result in
     let found = take (length field - i) (drop i field) in
     let minus : get_or found 0 0 ≡ 45 = omega arith in
-    rw (← cut field i c.skip_blanks.ensures.0 c.skip_blanks.ensures.1, number_of_next found 0 c.in-45.len_at_least, eq-eqb _ _ minus) (rw (take_all (length found - 1) (drop 1 found) (omega (arith, length-drop 1 found))) at c.magnitude_of.ensures)
+    rw (← cut field i c.skip_blanks.ensures.0 c.skip_blanks.ensures.1, number_of_next found 0 c.in-45.len_at_least, eq-eqb _ _ minus)
+    (rw (take_all (length found - 1) (drop 1 found) (omega (arith, length-drop 1 found))) at c.magnitude_of.ensures)
 
 pub returns-in_default : goal.returns-in_default
 unfolding field_of

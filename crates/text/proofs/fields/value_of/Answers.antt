@@ -2,7 +2,7 @@
 use Rattle.std.proofs.Common.{◌≡◌, ◌≤◌, ◌+◌, ◌*◌, ◌^◌, arith, sym, ◌∙◌, add-one, pow-suc, drop_of_length-le}
 use Rattle.std.proofs.Math.Nat.{pow-le-pow_right}
 use Rattle.text.specs.Fields.{value_from}
-use Rattle.text.specs.FieldLaws.{value_from_next, next_digit}
+use Rattle.text.specs.laws.FieldLaws.{value_from_next, next_digit}
 use Rattle.text.proofs.fields.value_of.Goals as goal
 
 pub overflow_mul-read : goal.overflow_mul-read

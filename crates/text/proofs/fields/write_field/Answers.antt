@@ -2,7 +2,7 @@
 use Rattle.std.proofs.Common.{rules, ◌≡◌, ◌+◌, ◌-◌, ◌/◌, ◌%◌, arith, sym, ◌∙◌, false, ◌++◌, length, take, drop, set, replicate, length-take, length-set}
 use borrow.Author.Tests.{eq-eqb, ne_eqb}
 use Rattle.text.specs.Fields.{blank, field_text}
-use Rattle.text.specs.FieldLaws.{before_blanks, field_text_next}
+use Rattle.text.specs.laws.FieldLaws.{before_blanks, field_text_next}
 use Rattle.text.proofs.fields.write_field.Goals as goal
 
 pub returns-then-rest-eq0 : goal.returns-then-rest-eq0

@@ -7,7 +7,7 @@ use mathlib.Core.List.{◌++◌}
 use lib.ListN.{length, take, drop, length-append, length-take, length-drop}
 use lib.Seq.{length-take-le}
 use Rattle.text.specs.Fields.{field_text}
-use Rattle.text.specs.ListingLaws.{length_field, line_written}
+use Rattle.text.specs.laws.ListingLaws.{length_field, line_written}
 use Rattle.text.proofs.listing.write_line.Goals as goal
 
 pub returns : goal.returns

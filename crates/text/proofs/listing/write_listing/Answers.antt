@@ -3,9 +3,9 @@ use Prim.Native.Nat.{◌+◌, ◌-◌, ◌*◌}
 use native.Mathlib.Omega.{arith}
 use mathlib.Core.Path.{◌≡◌}
 use lib.ListN.{length}
-use Rattle.lent.specs.Over.{over_on}
+use Rattle.lent.specs.laws.OverLaws.{over_on}
 use Rattle.text.specs.Listing.{header, rows, listing_text}
-use Rattle.text.specs.ListingLaws.{length_line, length_rows}
+use Rattle.text.specs.laws.ListingLaws.{length_line, length_rows}
 use Rattle.text.proofs.listing.write_listing.Goals as goal
 
 pub returns : goal.returns

@@ -1,8 +1,8 @@
 -- `write_rows` meets its contract: each round writes one more row.
 use Rattle.std.proofs.Common.{◌≡◌, ◌+◌, ◌-◌, ◌*◌, arith, sym}
-use Rattle.lent.specs.Over.{over_nothing}
+use Rattle.lent.specs.laws.OverLaws.{over_nothing}
 use Rattle.text.specs.Listing as Listing
-use Rattle.text.specs.ListingLaws.{rows_written}
+use Rattle.text.specs.laws.ListingLaws.{rows_written}
 use Rattle.text.proofs.listing.write_rows.Goals as goal
 
 pub loop-i-init : goal.loop-i-init

@@ -5,7 +5,7 @@ use Rattle.std.specs.List.{list_all}
 use Rattle.std.proofs.lemmas.Iterator.{YieldsList-from_slice}
 use Rattle.std.proofs.lemmas.Iterator.Search.{all_from_yields_List}
 use Rattle.std.proofs.lemmas.List.Folds.{list_all_more}
-use Rattle.tree.specs.Counting.{all_ones}
+use Rattle.tree.specs.steps.Counting.{all_ones}
 use Rattle.tree.proofs.items.all_ones.Goals as goal
 
 all_ones_take : (n : ℕ) (work : List ℕ) → n ≤ length work → all_ones n work ≡ list_all (λ x. eqb x 1) (take n work)
@@ -20,4 +20,4 @@ all_ones_all work = rw (all_ones_take (length work) work (le_refl _), take_all (
 pub returns : goal.returns
 returns c =
     let counts = c.args.counts.now in
-    all_from_yields_List (λ x. eqb x 1) _ _ c.all.result c.all.ensures.ran (YieldsList-from_slice counts cc) (λ x b q k. search (rules, tests)) ∙ all_ones_all counts
+    all_from_yields_List (λ x. eqb x 1) _ _ c.all.result c.all.ensures.ran (YieldsList-from_slice counts c.iter.ensures.rest) (λ x b q k. search (rules, tests)) ∙ all_ones_all counts

@@ -1,7 +1,7 @@
 use Rattle.std.proofs.Common.{get_or, take, length-take, arith}
 use Rattle.std.proofs.lemmas.List.{length-set}
 use Rattle.keys.specs.Sorting.{count}
-use Rattle.tree.specs.Counting.{count_le, counted_in, counted_out}
+use Rattle.tree.specs.laws.CountingLaws.{count_le, counted_in, counted_out}
 use Rattle.tree.proofs.items.count_items.Goals as goal
 use Rattle.tree.proofs.items.count_items.Goals.{then-k-counts, else-k-counts}
 

@@ -2,7 +2,7 @@
 -- each number stands once (`all_ones_once`).
 use Rattle.std.proofs.Common.{◌≡◌, length, eq-eqb, arith, length-take-le}
 use Rattle.std.proofs.lemmas.List.{drop_at}
-use Rattle.tree.specs.Counting.{all_ones_once}
+use Rattle.tree.specs.laws.CountingLaws.{all_ones_once}
 use Rattle.tree.proofs.items.items_once.Goals as goal
 
 pub returns : goal.returns

@@ -1,7 +1,7 @@
 -- `next_leaf` meets its contract. The invariant: the walk has gone on from where the search began, and still comes to the same. The measure is the nodes from its place on.
 use Prim.Native.Nat.{◌-◌}
 use Rattle.tree.specs.Tree.{node_count}
-use Rattle.walks.specs.Stacks.{Onward}
+use Rattle.walks.specs.steps.Stacks.{Onward}
 use Rattle.walks.proofs.leaves.next_leaf.Given as goal
 
 abbrev pub invariant-loop-at : goal.invariant-loop-at

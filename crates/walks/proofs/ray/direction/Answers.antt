@@ -4,7 +4,7 @@ use mathlib.Core.List.{[], map}
 use lib.ListN.{get_or-map}
 use Rattle.math.specs.Vectors.{at}
 use Rattle.scan.specs.Scan.{directions}
-use Rattle.walks.specs.Casts.{row, direction}
+use Rattle.walks.specs.steps.Casts.{row, direction}
 use Rattle.walks.proofs.ray.direction.Goals as goal
 
 pub returns : goal.returns

@@ -6,7 +6,7 @@ use Rattle.std.proofs.lemmas.List.{ext_get_or}
 use Rattle.math.specs.Vectors.{at}
 use Rattle.scan.specs.Scan.{directions}
 use Rattle.walks.specs.declared.ray.Heading.{Heading}
-use Rattle.walks.specs.Casts.{row, heading}
+use Rattle.walks.specs.steps.Casts.{row, heading}
 use Rattle.walks.proofs.ray.headings.Goals as goal
 
 -- a row's heading

@@ -1,7 +1,8 @@
 use mathlib.Core.Path.{sym, ap, ◌∙◌}
-use Rattle.scan.specs.ScanLaws.{cast_over, cast_over_append, cast_over_none, vote_over_cast}
+use Rattle.scan.specs.steps.VoteSteps.{cast_over}
+use Rattle.scan.specs.laws.ScanLaws.{cast_over_append, cast_over_none, vote_over_cast}
 use Rattle.walks.specs.Walks.{walk_vote, ray_walk}
-use Rattle.walks.specs.WalkLaws.{vote_up_to}
+use Rattle.walks.specs.laws.WalkLaws.{vote_up_to}
 use Rattle.walks.proofs.ray.ray_walk.Goals as goal
 
 pub loop-items-init : goal.loop-items-init

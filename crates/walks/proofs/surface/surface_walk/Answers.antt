@@ -1,8 +1,8 @@
 use mathlib.Core.Path.{sym, ap, ◌∙◌}
 use Rattle.scan.specs.Scan.{some}
-use Rattle.scan.specs.ScanLaws.{some_nothing, some_append}
+use Rattle.scan.specs.laws.ScanLaws.{some_nothing, some_append}
 use Rattle.walks.specs.Walks.{walk_touches, surface_walk}
-use Rattle.walks.specs.WalkLaws.{some_up_to}
+use Rattle.walks.specs.laws.WalkLaws.{some_up_to}
 use Rattle.walks.proofs.surface.surface_walk.Goals as goal
 
 pub loop-items-init : goal.loop-items-init

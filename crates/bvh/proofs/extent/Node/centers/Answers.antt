@@ -1,9 +1,9 @@
 use Rattle.std.proofs.Common.{sym, ◌∙◌, arith, drop_of_length-le}
-use Rattle.mesh.specs.Boxes.{triangle_center}
+use Rattle.mesh.specs.MeshBoxes.{triangle_center}
 use Rattle.mesh.specs.Mesh.{own_box}
 use Rattle.builder.specs.Builder.{center_of}
-use Rattle.bvh.specs.Extent.{with_centers}
-use Rattle.bvh.specs.ExtentLoops.{with_centers_next}
+use Rattle.bvh.specs.steps.Extent.{with_centers}
+use Rattle.bvh.specs.laws.ExtentLoops.{with_centers_next}
 use Rattle.bvh.proofs.extent.Node.centers.Goals as goal
 
 pub loop-t-preserved : goal.loop-t-preserved

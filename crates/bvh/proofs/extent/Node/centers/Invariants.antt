@@ -1,7 +1,7 @@
 -- `Node::centers` meets its contract. The invariant: the box so far, with the centres of the items from the next on, is that of all.
 use Rattle.std.proofs.Common.{◌≡◌, drop}
-use Rattle.math.specs.Boxes.{empty}
-use Rattle.bvh.specs.Extent.{with_centers}
+use Rattle.math.specs.BoundingBoxes.{empty}
+use Rattle.bvh.specs.steps.Extent.{with_centers}
 use Rattle.bvh.proofs.extent.Node.centers.Given as goal
 
 abbrev pub invariant-loop-t : goal.invariant-loop-t

@@ -1,5 +1,5 @@
 -- `Node::split` meets its contract: the axis on which the box around the centres is widest is that of the node, whatever the items' order.
-use Rattle.bvh.specs.ExtentLaws.{centers_axis}
+use Rattle.bvh.specs.laws.ExtentLaws.{centers_axis}
 use Rattle.bvh.proofs.extent.Node.split.Goals as goal
 
 pub returns : goal.returns

@@ -1,9 +1,9 @@
 use Rattle.std.proofs.Common.{refl, sym, ◌∙◌, arith}
 use lib.Seq.{take_all}
 use Rattle.keys.specs.Sorting.{sorted_by}
-use Rattle.mesh.specs.Axes.{place}
-use Rattle.bvh.specs.Extent.{is_upper, own_edge, first_zero}
-use Rattle.bvh.specs.ExtentLoops.{first_zero_more, found_item}
+use Rattle.mesh.specs.steps.Axes.{place}
+use Rattle.bvh.specs.steps.Extent.{is_upper, own_edge, first_zero}
+use Rattle.bvh.specs.laws.ExtentLoops.{first_zero_more, found_item}
 use Rattle.bvh.proofs.extent.Node.zero_edge.Goals as goal
 
 pub loop-t-init : goal.loop-t-init

@@ -2,8 +2,8 @@
 -- inserted there.
 use Rattle.std.proofs.Common.{◌≡◌, take}
 use Rattle.keys.specs.Sorting.{sorted}
-use Rattle.mesh.specs.Axes.{place}
-use Rattle.bvh.specs.Extent.{is_upper, own_edge, first_zero}
+use Rattle.mesh.specs.steps.Axes.{place}
+use Rattle.bvh.specs.steps.Extent.{is_upper, own_edge, first_zero}
 use Rattle.bvh.proofs.extent.Node.zero_edge.Given as goal
 
 abbrev pub invariant-loop-t : goal.invariant-loop-t

@@ -4,10 +4,10 @@ use native.Mathlib.Omega.{arith}
 use mathlib.Core.Path.{◌≡◌, refl, sym, ap, ◌∙◌}
 use lib.ListN.{length}
 use Rattle.tree.specs.Tree.{tree, start_of, count_of}
-use Rattle.walks.specs.Walks.{Walk, Ready}
-use Rattle.walks.specs.WalkLaws.{progress}
-use Rattle.walks.specs.Stacks as Stacks
-use Rattle.walks.specs.Stacks.{pending_from}
+use Rattle.walks.specs.steps.Leaves.{Walk, Ready}
+use Rattle.walks.specs.laws.WalkLaws.{progress}
+use Rattle.walks.specs.laws.StackLaws as StackLaws
+use Rattle.walks.specs.steps.Stacks.{pending_from}
 use Rattle.walks.proofs.leaves.LeavesIterator.next.Goals.{After-node_at-leaf}
 use Rattle.walks.proofs.leaves.LeavesIterator.next.Given.{Over}
 use Rattle.walks.proofs.leaves.LeavesIterator.next.Goals as goal
@@ -20,11 +20,11 @@ module _ (g : Over) (c : After-node_at-leaf g) where
   -- its items are in the list
   within : c.node_at-leaf.result.start + c.node_at-leaf.result.count ≤ length c.tree.inside.items.now
   unfolding start_of count_of
-  within = omega (arith, c.node_at-leaf.ensures, Stacks.leaf_within ready (rw (← c.tree.view_is) at c.next_leaf-at.ensures) (omega arith))
+  within = omega (arith, c.node_at-leaf.ensures, StackLaws.leaf_within ready (rw (← c.tree.view_is) at c.next_leaf-at.ensures) (omega arith))
 
 pub node_at-leaf-requires : goal.node_at-leaf-requires
 node_at-leaf-requires g c =
-    let here = rw (← c.tree.view_is) at (Stacks.here c.next_leaf-at.ensures.onward.walking (omega arith)) in
+    let here = rw (← c.tree.view_is) at (StackLaws.here c.next_leaf-at.ensures.onward.walking (omega arith)) in
     omega (arith, here.there, c.tree.invariant.1.nodes)
 
 pub returns-then-at-eq0-clause-steps : goal.returns-then-at-eq0-clause-steps
@@ -35,7 +35,7 @@ returns-then-at-eq0-clause-steps g c =
     record { mesh = ap (λ (w : Walk). w.mesh) c.self.view_is; leaf = tt; triangles = tt; places = tt; end = sym coming ∙ none }
 
 pub popped-self-inside-requires : goal.popped-self-inside-requires
-popped-self-inside-requires g c = (omega arith, (Stacks.here c.next_leaf-at.ensures.onward.walking (omega arith)).low)
+popped-self-inside-requires g c = (omega arith, (StackLaws.here c.next_leaf-at.ensures.onward.walking (omega arith)).low)
 
 pub overflow_add-result : goal.overflow_add-result
 overflow_add-result g c = omega (arith, within g (goal.at.overflow_add-result g c).After-node_at-leaf)
@@ -44,7 +44,7 @@ pub slice_bounds-result-end : goal.slice_bounds-result-end
 slice_bounds-result-end g c = within g (goal.at.slice_bounds-result-end g c).After-node_at-leaf
 
 pub invariant_of-self-2 : goal.invariant_of-self-2
-invariant_of-self-2 g c = rw c.popped-self-inside.ensures (Stacks.here c.next_leaf-at.ensures.onward.walking (omega arith)).after
+invariant_of-self-2 g c = rw c.popped-self-inside.ensures (StackLaws.here c.next_leaf-at.ensures.onward.walking (omega arith)).after
 
 pub returns-clause-steps : goal.returns-clause-steps
 unfolding start_of count_of
@@ -53,7 +53,7 @@ returns-clause-steps g c =
     let count = c.node_at-leaf.result.count in
     let fewer : start + count - start ≡ count = omega arith in
     let leaf = (goal.at.returns-clause-steps g c).After-node_at-leaf in
-    let found = rw c.node_at-leaf.ensures.0 at (Stacks.leaf_found (ready g leaf) (rw (← c.tree.view_is) at c.next_leaf-at.ensures) (omega arith) (start + count - start) (fewer ∙ c.node_at-leaf.ensures.1)) in
+    let found = rw c.node_at-leaf.ensures.0 at (StackLaws.leaf_found (ready g leaf) (rw (← c.tree.view_is) at c.next_leaf-at.ensures) (omega arith) (start + count - start) (fewer ∙ c.node_at-leaf.ensures.1)) in
     rw
     (← c.self.view_is, ← c.tree.view_is, c.popped-self-inside.ensures)
     (record { mesh = refl; leaf = rw c.node_at-leaf.ensures.0 found.coming; triangles = rw c.node_at-leaf.ensures.0 found.triangles; places = rw c.node_at-leaf.ensures.0 (found.some, found.few); end = tt })

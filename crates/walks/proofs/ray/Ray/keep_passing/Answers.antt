@@ -2,7 +2,7 @@ use Prim.Native.Nat.{◌+◌}
 use native.Mathlib.Omega.{arith}
 use mathlib.Core.Path.{◌≡◌, refl, sym}
 use lib.ListN.{length-set}
-use Rattle.walks.specs.Leaves.{kept_none, kept_next}
+use Rattle.walks.specs.laws.LeafLaws.{kept_none, kept_next}
 use Rattle.walks.proofs.ray.Ray.keep_passing.Goals as goal
 
 pub loop-t-init : goal.loop-t-init

@@ -1,7 +1,7 @@
 -- `Ray::own_passes` meets its contract: the corners of a triangle of an accepted mesh are finite, so its own box is not empty.
 use mathlib.Core.Path.{sym}
-use Rattle.math.specs.Corners.{box_some}
-use Rattle.mesh.specs.Boxes.{points_box}
+use Rattle.math.specs.laws.CornerLaws.{box_some}
+use Rattle.mesh.specs.laws.MeshBoxLaws.{points_box}
 use Rattle.mesh.specs.Mesh.{own_box}
 use Rattle.scan.specs.Scan.{ray_passes}
 use Rattle.walks.proofs.ray.Ray.own_passes.Goals as goal

@@ -7,8 +7,9 @@ use Rattle.std.specs.Prelude.{Some, None}
 use Rattle.std.proofs.Common.{add-one, drop-cons, get_or-take}
 use Rattle.std.proofs.Math.Seq.{take-length}
 use Rattle.scan.specs.Scan.{found}
-use Rattle.scan.specs.ScanLaws.{cast_over, cast_over_none}
-use Rattle.walks.specs.WalkLaws.{items_from_part}
+use Rattle.scan.specs.steps.VoteSteps.{cast_over}
+use Rattle.scan.specs.laws.ScanLaws.{cast_over_none}
+use Rattle.walks.specs.laws.WalkLaws.{items_from_part}
 use Rattle.walks.proofs.ray.Ray.parity_with.Goals as goal
 
 pub loop-t-init : goal.loop-t-init
@@ -44,7 +45,7 @@ unfolding cast_over
 returns-in_err-parity c =
     let front = take c.keep_passing-n.result c.keep_passing-n.new.kept in
     let next = rw (drop-cons front c.loop-t.t-index 0 c.loop-t-test.true) at c.loop-t.invariant in
-    let find = found c.args.mesh.now c.args.self.now.direction c.args.self.now.origin in
+    let find = found c.args.mesh.now c.args.self.now.origin c.args.self.now.direction in
     let rest = drop (suc c.loop-t.t-index) front in
     let step : cast_over find None rest ≡ cast_over find (Some c.loop-t.parity) (get_or front c.loop-t.t-index 0 ∷ rest) = rw (c.in_err-parity.ensures, c.found.ensures) refl in
     rw c.from_residual.ensures (sym (cast_over_none find rest) ∙ step ∙ next)

@@ -1,0 +1,2 @@
+-- The laws of the definitions of crate `c_columns`.
+pub mod ReadBack

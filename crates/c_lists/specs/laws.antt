@@ -1,0 +1,2 @@
+-- The laws of the definitions of crate `c_lists`.
+pub mod ReadBack

@@ -1,0 +1,5 @@
+-- Written out, so that a wrong `csx_curve` is refused at once.
+use Rattle.c_shapes.proofs.csx_curve.Goals as goal
+
+pub returns : goal.returns
+returns c = rw (← c.new.ensures) c.asked.ensures

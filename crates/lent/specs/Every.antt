@@ -1,0 +1,7 @@
+-- What holds of every element of a list, a word of other definitions. Definition only.
+use Rattle.std.specs.Prelude.{List, [], ◌∷◌}
+
+-- P holds of every element
+abbrev pub Every : {A : Type 0} → (A → Type 0) → List A → Type 0
+Every P [] = Unit {0}
+Every P (x ∷ l) = P x × Every P l

@@ -1,0 +1,3 @@
+-- The laws of the definitions of crate `lent`.
+pub mod OverLaws
+pub mod ReorderedLaws

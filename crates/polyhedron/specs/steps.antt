@@ -1,0 +1,3 @@
+-- What the inner functions of crate `polyhedron` promise to each other.
+pub mod Answerable
+pub mod Points

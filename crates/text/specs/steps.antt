@@ -1,0 +1,2 @@
+-- What the inner functions of crate `text` promise to each other.
+pub mod LineAt

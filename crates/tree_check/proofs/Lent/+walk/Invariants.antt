@@ -1,5 +1,0 @@
--- The depth falls with each call.
-use Rattle.tree_check.proofs.Lent.+walk.Given as goal
-
-abbrev pub decreases-walk : goal.decreases-walk
-decreases-walk l = l.depth
