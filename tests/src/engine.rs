@@ -6,6 +6,7 @@ pub mod columns;
 pub mod lists;
 pub mod meshes;
 pub mod trees;
+pub mod vectors;
 
 use std::cell::Cell;
 use std::ptr;

@@ -18,6 +18,7 @@ pub mod sample;
 pub mod shapes;
 pub mod trees;
 mod turns;
+pub mod vectors;
 
 use crate::plan::Plan;
 use crate::random::specials;
