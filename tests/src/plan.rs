@@ -20,7 +20,17 @@ pub struct Plan {
 }
 
 impl Plan {
-    /// A run of one and a half minutes.
+    /// The gate's run: one of five inputs of the quick run.
+    pub fn gate(seed: u64) -> Self {
+        Self {
+            seed,
+            cases: 200,
+            values: 200,
+            rounds: 200,
+        }
+    }
+
+    /// A run of two and a half minutes.
     pub fn quick(seed: u64) -> Self {
         Self {
             seed,
@@ -91,6 +101,7 @@ mod tests {
     #[test]
     fn a_large_run_takes_more() {
         for size in [Plan::times, Plan::values, Plan::rounds] {
+            assert_eq!(size(&Plan::gate(1), 50), 10);
             assert_eq!(size(&Plan::quick(1), 50), 50);
             assert!(size(&Plan::large(1), 50) > 50);
             assert_eq!(size(&Plan::tiny(), 50), 1);

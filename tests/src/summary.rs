@@ -110,7 +110,7 @@ const ROWS: [Row; 13] = [
     },
     Row {
         entry: "zeros",
-        text: "zeros in boxes of meshes and trees to which csx gives the other sign",
+        text: "zeros in boxes to which csx gives the other sign",
         names: &[OTHER_ZEROS],
         changed: true,
         needed: false,

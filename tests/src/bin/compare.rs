@@ -6,7 +6,7 @@ use std::process::ExitCode;
 
 use zirwennach_tests::engine;
 use zirwennach_tests::kinds::{
-    columns, corrections, lists, meshes, order, remainder, root, rules, shapes, trees,
+    columns, corrections, lists, meshes, order, remainder, root, rules, shapes, trees, vectors,
 };
 use zirwennach_tests::plan::{DEFAULT_SEED, Plan};
 use zirwennach_tests::report::Report;
@@ -28,7 +28,7 @@ fn main() -> ExitCode {
     let arguments: Vec<String> = env::args().skip(1).collect();
     let arguments: Vec<&str> = arguments.iter().map(|argument| &argument[..]).collect();
     let Some(asked) = asked(&arguments) else {
-        eprintln!("usage: compare quick|large [SEED] [--csx-alone] [--counts FILE]");
+        eprintln!("usage: compare gate|quick|large [SEED] [--csx-alone] [--counts FILE]");
         return ExitCode::from(2);
     };
     // Left empty by a run that fails.
@@ -63,6 +63,7 @@ fn asked<'a>(arguments: &[&'a str]) -> Option<Asked<'a>> {
         _ => return None,
     };
     let plan = match size {
+        "gate" => Plan::gate(seed),
         "quick" => Plan::quick(seed),
         "large" => Plan::large(seed),
         _ => return None,
@@ -100,13 +101,14 @@ fn counted(asked: &Asked, report: &Report) -> Run {
 type Kinds = fn(&mut Report, &Plan);
 
 /// For each subject the kinds that csx has a part in, and the others.
-const SUBJECTS: [(&str, Option<Kinds>, Option<Kinds>); 9] = [
+const SUBJECTS: [(&str, Option<Kinds>, Option<Kinds>); 10] = [
     ("square root", None, Some(square_root)),
     (
         "number functions",
         Some(min_and_max),
         Some(number_functions),
     ),
+    ("vectors and boxes", Some(vectors_and_boxes), None),
     ("shapes", Some(all_shapes), None),
     ("meshes", Some(all_meshes), None),
     ("welding", Some(welding), None),
@@ -150,6 +152,11 @@ fn number_functions(report: &mut Report, plan: &Plan) {
     rules::is_finite(report, plan, engine::is_finite);
     remainder::compare(report, plan, engine::rem_euclid);
     order::compare(report, plan, engine::order_key);
+}
+
+fn vectors_and_boxes(report: &mut Report, plan: &Plan) {
+    vectors::vectors(report, plan, engine::vectors::vectors);
+    vectors::boxes(report, plan, engine::vectors::boxes);
 }
 
 fn all_shapes(report: &mut Report, plan: &Plan) {
