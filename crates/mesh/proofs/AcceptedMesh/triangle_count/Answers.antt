@@ -7,3 +7,7 @@ pub overflow_sub-result : goal.overflow_sub-result
 overflow_sub-result c =
     let m = c.self.invariant.0 in
     omega (arith, wide_corners 0 _ c.self.inside.ends.now m.lengths.fit m.wide)
+
+-- Written out, so that a wrong `triangle_count` is refused at once.
+pub returns-clause-count : goal.returns-clause-count
+returns-clause-count c = rw (← c.self.view_is)
