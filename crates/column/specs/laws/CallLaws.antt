@@ -21,7 +21,7 @@ use Rattle.text.specs.declared.Counts.{Counts}
 use Rattle.text.specs.Lines.{is_count, is_corner, is_of, all_three, numbers_fit, kind_of, lines_in, lines}
 use Rattle.text.specs.steps.LineAt.{line_at}
 use Rattle.text.specs.laws.LineLaws.{length_lines, lines_take, lines_drop, section_line}
-use Rattle.text.specs.laws.GoodTexts.{Accepted, accepted, good_line}
+use Rattle.text.specs.laws.GoodTexts.{GoodText, good_text, good_line}
 use Rattle.text.specs.Listing.{listing_text, listing_length}
 use Rattle.text.specs.laws.ListingLaws.{length_listing}
 use Rattle.column.specs.steps.Answers.{Few}
@@ -91,9 +91,9 @@ pub ruleset fronts = (length-take-le)
 
 module _ (text : List ℕ) (counts : Counts) (good : judged text ≡ Ok counts) where
   -- what the text has
-  pub has : Accepted text counts
+  pub has : GoodText text counts
   unfolding judged
-  has = accepted 1 counts text good
+  has = good_text 1 counts text good
 
   long : length text ≡ 36 * (counts.vertices + counts.triangles + counts.points)
   unfolding lines_in

@@ -241,17 +241,17 @@ good_all : (k first : ℕ) (c : Counts) → GoodUpTo k first c
 good_all zero first c = good_zero first c
 good_all (suc k) first c = good_suc k first c (good_all k first c)
 
--- what an accepted text has
-pub record Accepted (text : List ℕ) (c : Counts) : Type 0 where
+-- what a good text has
+pub record GoodText (text : List ℕ) (c : Counts) : Type 0 where
   pub limits : Limits c
   pub long : length text ≡ 36 * lines_in c
   pub each_vertex : (i : ℕ) → i < c.vertices → kind_of (line_at text i) ≡ Some Kinds.Vertex
   pub each_triangle : (i : ℕ) → i < c.triangles → kind_of (line_at text (c.vertices + i)) ≡ Some Kinds.Triangle
   pub each_point : (i : ℕ) → i < c.points → kind_of (line_at text (c.vertices + c.triangles + i)) ≡ Some Kinds.Point
 
-pub accepted : (first : ℕ) (c : Counts) (text : List ℕ) → judge first none (lines text) ≡ Ok c → Accepted text c
+pub good_text : (first : ℕ) (c : Counts) (text : List ℕ) → judge first none (lines text) ≡ Ok c → GoodText text c
 unfolding none lines_in
-accepted first c text e =
+good_text first c text e =
     let none_yet : Limits none = record { vertices = omega arith; triangles = omega arith; points = omega arith; lines = omega arith } in
     let found = good_all (length text) first c none text (omega arith) e none_yet in
     let s = found.1 in

@@ -12,7 +12,7 @@ use Rattle.text.specs.Fields.{blank, line_feed, minus, digit0, before, field_tex
 use Rattle.text.specs.Lines.{number_at, is_count, is_corner, is_of, numbers_fit, kind_named, of_kind, kind_of, lines, none, lines_in, judge}
 use Rattle.text.specs.steps.LineAt.{line_at}
 use Rattle.text.specs.laws.FieldTheorem.{read_is_written}
-use Rattle.text.specs.laws.GoodTexts.{three, good_is, good_line, Accepted, accepted}
+use Rattle.text.specs.laws.GoodTexts.{three, good_is, good_line, GoodText, good_text}
 
 -- ---- bytes without a line feed; past the end a read gives 0, which is none
 
@@ -114,7 +114,7 @@ module _ (line : List ℕ) (kind : Kind) (good : kind_of line ≡ Some kind) whe
 -- ---- a good text
 
 -- each line has a kind
-line_good : (text : List ℕ) (c : Counts) → Accepted text c → (q : ℕ) → q < lines_in c → (kind : Kind) × (kind_of (line_at text q) ≡ Some kind)
+line_good : (text : List ℕ) (c : Counts) → GoodText text c → (q : ℕ) → q < lines_in c → (kind : Kind) × (kind_of (line_at text q) ≡ Some kind)
 unfolding lines_in
 line_good text c a q h = elim (cases_lt q c.vertices) [
   | inl vertex ↦ (Kinds.Vertex, a.each_vertex q vertex)
@@ -139,7 +139,7 @@ byte_at text i =
 pub line_feeds : (first : ℕ) (c : Counts) (text : List ℕ) → judge first none (lines text) ≡ Ok c
     → (i : ℕ) → i < length text → (i % 36 ≡ 35 → get_or text i 0 ≡ line_feed) × (get_or text i 0 ≡ line_feed → i % 36 ≡ 35)
 line_feeds first c text e i h =
-    let a = accepted first c text e in
+    let a = good_text first c text e in
     let good = line_good text c a (i / 36) (omega (arith, a.long)) in
     let line = line_at text (i / 36) in
     (λ last. sym (byte_at text i) ∙ rw last (fed line good.0 good.1), λ feed. last_place line (unfed line good.0 good.1) (byte_at text i ∙ feed))
