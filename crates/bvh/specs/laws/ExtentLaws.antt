@@ -1,6 +1,6 @@
 -- What the builder measures does not depend on the order of a node's items: `node_box_any_order` and `split_axis_any_order`. An inner node's box
 -- follows from those of its halves, and the axis from the box around the centres: `joined_halves` and `centers_axis`.
-use Rattle.std.specs.Prelude.{ℕ, ◌+◌, ◌*◌, ◌≡◌, refl, Bool, true, false, cond, not, ◌||◌, List, [], ◌∷◌, ◌++◌, eqb, Float, get_or, take, drop}
+use Rattle.std.specs.Prelude.{ℕ, ◌+◌, ◌*◌, ◌≡◌, refl, Bool, true, false, cond, not, ◌||◌, List, [], ◌∷◌, ◌++◌, eqb, Float, take, drop}
 use Rattle.std.proofs.Common.{sym, ap, ◌∙◌, take-append-drop}
 use Rattle.std.proofs.Math.Path.{ap₂}
 use Rattle.std.proofs.Math.Dec.{T}

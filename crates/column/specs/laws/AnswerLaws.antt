@@ -6,7 +6,6 @@ use Rattle.lent.specs.Over.{over}
 use Rattle.lent.specs.laws.OverLaws.{over_whole, take_over, length_over}
 use Rattle.refusal.specs.declared.Refusal.{Refusal}
 use Rattle.refusal.specs.Verdicts.{Passed, Verdict, written}
-use Rattle.mesh_questions.specs.laws.AcceptedLaws.{accepted}
 use Rattle.mesh.specs.Mesh.{Mesh, triangle_count}
 use Rattle.tree.specs.Tree.{tree, node_count}
 use Rattle.tree.specs.TreeRules.{TreeRules}

@@ -2,11 +2,10 @@
 use Prim.Native.Nat.{ℕ, suc, ◌+◌, ◌-◌, ◌≤◌, ◌<◌}
 use Rattle.std.proofs.Math.Numerals.{add-one}
 use native.Mathlib.Omega.{arith}
-use Rattle.std.specs.Prelude.{◌≡◌, List, [], ◌∷◌, ◌++◌, get_or, take, drop, set, replicate}
+use Rattle.std.specs.Prelude.{◌≡◌, List, [], ◌∷◌, ◌++◌, get_or, take, drop, set}
 use Rattle.std.proofs.Math.Path.{refl}
 use Rattle.std.proofs.Common.{sym, ◌∙◌, append-nil, append_assoc, length-take, length-drop, drop_of_length-le, take-append-drop, take-suc, length-take-le}
 use Rattle.std.proofs.Math.ListN.{length, length-append}
-use Rattle.std.proofs.lemmas.List.{length-replicate, replicate-append-replicate}
 use Rattle.std.proofs.Math.Seq.{drop-cons, drop-drop, drop-append-add, set-append_seam, append_snoc, take_at, drop_at}
 use Rattle.std.proofs.lemmas.List.Edits.{sets, sets-eq}
 use Rattle.lent.specs.Over.{over}

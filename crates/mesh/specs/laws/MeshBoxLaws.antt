@@ -3,7 +3,7 @@ use Rattle.std.specs.Prelude.{◌≡◌, refl, List, Float}
 use Rattle.math.specs.steps.Corners as Corners
 use Rattle.mesh.specs.declared.Triangle.{Triangle}
 use Rattle.mesh.specs.MeshBoxes.{corner_points, triangle_box}
-use Rattle.mesh.specs.steps.TriangleCorners.{Corners, Finite}
+use Rattle.mesh.specs.steps.TriangleCorners.{Finite}
 
 -- so are the points that they are
 pub points_finite : (coords : List Float) (t : Triangle) → Finite coords t → Corners.Finite (corner_points coords t)

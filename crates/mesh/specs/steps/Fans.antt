@@ -2,8 +2,6 @@
 use Rattle.std.specs.Prelude.{ℕ, zero, suc, ◌+◌, ◌*◌, ◌≤◌, ◌<◌, Bool, true, cond, ◌&&◌, ◌≡◌, List, [], ◌∷◌, eqb, length, get_or}
 use Rattle.mesh.specs.declared.Sides.{Sides}
 use Rattle.mesh.specs.declared.Sides.TheVariants.{Three, Four, Mixed}
-use Rattle.mesh_questions.specs.Faces.{faces}
-use Rattle.mesh.specs.Triangles.{triangle, triangles}
 
 -- where the corners of face f begin, for faces whose corners begin at place `start`
 unfoldable pub start_from : ℕ → List ℕ → ℕ → ℕ

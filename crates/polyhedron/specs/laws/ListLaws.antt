@@ -1,5 +1,5 @@
 -- What leads from the steps of `contains_list` to its promise: where a question refuses, and where none does.
-use Rattle.std.specs.Prelude.{ℕ, ◌+◌, ◌*◌, ◌/◌, ◌%◌, ◌≤◌, ◌<◌, ◌≡◌, true, ◌&&◌, List, eqb, leb, Float, length, get_or, take, set, replicate, Result, Err}
+use Rattle.std.specs.Prelude.{ℕ, ◌+◌, ◌*◌, ◌/◌, ◌%◌, ◌≤◌, ◌<◌, ◌≡◌, true, ◌&&◌, List, eqb, leb, Float, length, get_or, take, set, Result, Err}
 use Rattle.std.proofs.Common.{arith, ap, ◌∙◌, take_all, eqb-true, leb-true}
 use Rattle.std.proofs.Math.Path.{refl, sym}
 use Rattle.std.specs.Float.{nan}

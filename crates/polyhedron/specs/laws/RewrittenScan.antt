@@ -20,7 +20,7 @@ use Rattle.math.specs.BoundingBoxes.{empty, include_all}
 use Rattle.mesh_questions.specs.Faces.{faces}
 use Rattle.mesh.specs.Triangles.{triangle, triangles}
 use Rattle.mesh.specs.MeshBoxes.{vertex, triangle_box, mesh_box, surface_eps}
-use Rattle.mesh.specs.Mesh.{Mesh, triangle_count, triangle_at, own_box, all_triangles}
+use Rattle.mesh.specs.Mesh.{Mesh, triangle_at, own_box, all_triangles}
 use Rattle.mesh_questions.specs.steps.Accepted.{Accepted}
 use Rattle.mesh_questions.specs.laws.AcceptedLaws.{accepted}
 use Rattle.mesh.specs.laws.Fans.{length_triangles}

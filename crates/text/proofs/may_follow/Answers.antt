@@ -1,7 +1,7 @@
 -- Written out, so that a wrong `may_follow` is refused at once.
 use native.Mathlib.Omega.{arith}
 use borrow.Author.Tests.{lt-ltb}
-use Rattle.text.specs.Lines.{lines_in, fits, may_follow}
+use Rattle.text.specs.Lines.{fits, may_follow}
 use Rattle.text.proofs.may_follow.Goals as goal
 
 pub returns-in-Triangle : goal.returns-in-Triangle

@@ -6,7 +6,7 @@ use Rattle.math.specs.BoundingBoxes.{is_empty}
 use Rattle.tree.specs.Tree.{box_at}
 use Rattle.walks.specs.steps.NodePlanes.{Seen}
 use Rattle.walks.specs.laws.PlaneLaws.{places_within}
-use Rattle.walks.specs.steps.Casts.{direction, Cast}
+use Rattle.walks.specs.steps.Casts.{Cast}
 
 -- so the places lie in a node's six floats
 pub within : {origin direction inv : Vec3} {planes : Near} → Cast origin direction inv planes → (planes.x ≤ 3) × (planes.y ≤ 4) × (planes.z ≤ 5) × (2 ≤ planes.z)

@@ -1,6 +1,6 @@
 -- Over a tree that keeps the rules the surface walk and the ray walk find what the plain scan finds: the same triangles (`surface_finds`, `ray_finds`), and so the
 -- same answers (`walk_touches_scan`, `walk_vote_scan`).
-use Rattle.std.specs.Prelude.{ℕ, ◌<◌, ◌≡◌, refl, Bool, false, cond, ◌&&◌, ltb, Float, length}
+use Rattle.std.specs.Prelude.{ℕ, ◌<◌, ◌≡◌, refl, Bool, false, cond, ◌&&◌, ltb, Float}
 use Rattle.std.proofs.Common.{sym, ◌∙◌}
 use Rattle.std.proofs.Math.Path.{ap}
 use Rattle.std.proofs.Math.Bool.{true}

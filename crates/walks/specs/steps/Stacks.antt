@@ -7,9 +7,9 @@ use Rattle.std.proofs.Math.ListN.{get_or, replicate}
 use Rattle.math.specs.declared.BoundingBox.{BoundingBox}
 use Rattle.mesh.specs.Mesh.{Mesh, triangle_count}
 use Rattle.tree.specs.Tree.{Tree, stride, node_count, box_of, count_of}
-use Rattle.tree.specs.TreeRules.{Subtree, leaf}
+use Rattle.tree.specs.TreeRules.{Subtree}
 use Rattle.walks.specs.declared.nodes.Place.{Place}
-use Rattle.walks.specs.Walks.{node, all_visits, reached}
+use Rattle.walks.specs.Walks.{all_visits, reached}
 use Rattle.walks.specs.laws.WalkLaws.{below}
 
 -- so many subtrees are still to be visited: that of node n, whose items begin at place i, and those whose roots the stack has below it. They lie one behind the other,

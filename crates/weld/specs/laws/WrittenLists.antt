@@ -1,17 +1,14 @@
 -- Laws of the lists that a mesh is written as: the numbers of vertices, the corners and the ends of faces.
-use Rattle.std.specs.Prelude.{ℕ, zero, suc, ◌+◌, ◌*◌, ◌%◌, ◌≤◌, ◌<◌, Bool, true, false, cond, ◌≡◌, refl, List, [], ◌∷◌, ◌++◌, Float, drop}
+use Rattle.std.specs.Prelude.{ℕ, zero, suc, ◌+◌, ◌*◌, ◌%◌, ◌≤◌, Bool, true, false, cond, ◌≡◌, refl, List, [], ◌∷◌, ◌++◌, Float, drop}
 use native.Mathlib.Omega.{arith}
 use Rattle.std.proofs.Common.{ap, append_assoc, length-append}
-use Rattle.std.specs.Float.Ieee.{nan}
 use Rattle.std.proofs.Math.ListN.{length, take}
-use Rattle.std.proofs.Math.Seq.{length-take-le, get_or-take}
+use Rattle.std.proofs.Math.Seq.{length-take-le}
 use Rattle.lent.specs.Over.{over}
 use Rattle.lent.specs.laws.OverLaws.{over_own, over_over, take_over}
 use Rattle.math.specs.declared.Vec3.{Vec3}
-use Rattle.math.specs.Vectors.{points, at}
-use Rattle.math.specs.laws.VectorLaws.{points_next}
+use Rattle.math.specs.Vectors.{points}
 use Rattle.mesh.specs.declared.Triangle.{Triangle}
-use Rattle.mesh.specs.MeshBoxes.{vertex}
 use Rattle.mesh.specs.Triangles.{triangle}
 use Rattle.weld.specs.Welding.{find, degenerate, kept, faces_among, numbers, corners_of, ends_from}
 use Rattle.weld.specs.steps.WeldSteps.{first}

@@ -1,5 +1,4 @@
 -- `Fitting::root_fits` meets its contract: its tests are those of the definition, with the number of triangles taken from the lengths.
-use native.Mathlib.Omega.{arith}
 use Prim.Native.Nat.{ℕ}
 use mathlib.Core.Path.{◌≡◌, sym, ◌∙◌}
 use mathlib.Core.Bool.{Bool, false, ◌&&◌}
