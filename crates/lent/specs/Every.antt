@@ -1,4 +1,4 @@
--- What holds of every element of a list, a word of other definitions. Definition only.
+-- What holds of every element of a list (document 01 leaves edge keys ascending: `Sorting` says so with it). Definition only.
 use Rattle.std.specs.Prelude.{List, [], ◌∷◌}
 
 -- P holds of every element
