@@ -8,7 +8,6 @@ ghost use Rattle.float.specs.laws.Order.{Number};
 ghost use Rattle.math.specs.Vectors as Vectors;
 ghost use Rattle.math.specs.BoundingBoxes as BoundingBoxes;
 ghost use Rattle.math.specs.steps.Corners as Corners;
-ghost use Rattle.math.specs.laws.CornerLaws as CornerLaws;
 
 use std::ops::{Add, AddAssign, Div, Mul, Neg, Sub, SubAssign};
 
@@ -460,16 +459,16 @@ impl CornerPoints {
         ensures { result ≡ Corners.own_box self }
     {
         BoundingBox {
-            min: Vec3 {
-                x: lowest(self.a.x, self.b.x, self.c.x),
-                y: lowest(self.a.y, self.b.y, self.c.y),
-                z: lowest(self.a.z, self.b.z, self.c.z),
-            },
-            max: Vec3 {
-                x: highest(self.a.x, self.b.x, self.c.x),
-                y: highest(self.a.y, self.b.y, self.c.y),
-                z: highest(self.a.z, self.b.z, self.c.z),
-            },
+            min: Vec3::new(
+                lowest(self.a.x, self.b.x, self.c.x),
+                lowest(self.a.y, self.b.y, self.c.y),
+                lowest(self.a.z, self.b.z, self.c.z),
+            ),
+            max: Vec3::new(
+                highest(self.a.x, self.b.x, self.c.x),
+                highest(self.a.y, self.b.y, self.c.y),
+                highest(self.a.z, self.b.z, self.c.z),
+            ),
         }
     }
 }

@@ -2,7 +2,6 @@
 // in specs/steps/Counting.antt.
 ghost use Rattle.std.specs.Prelude.{◌≡◌, ◌≤◌, length};
 ghost use Rattle.tree.specs.steps.Counting as Counting;
-ghost use Rattle.tree.specs.laws.CountingLaws as CountingLaws;
 
 // Counts in each place how often its number stands among the items.
 fn count_items(items: &[u32], counts: &mut [u64])

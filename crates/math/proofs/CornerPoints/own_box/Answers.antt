@@ -22,4 +22,14 @@ highest-requires-3 c = z_numbers c.requires
 
 pub returns : goal.returns
 returns c =
-    rw (c.highest-3.ensures, c.highest-2.ensures, c.highest.ensures, c.lowest-3.ensures, c.lowest-2.ensures, c.lowest.ensures, box_by_axes c.args.self)
+    rw (
+      c.new-2.ensures,
+      c.new.ensures,
+      c.highest-3.ensures,
+      c.highest-2.ensures,
+      c.highest.ensures,
+      c.lowest-3.ensures,
+      c.lowest-2.ensures,
+      c.lowest.ensures,
+      box_by_axes c.args.self,
+    )
