@@ -3,7 +3,7 @@ ghost use Rattle.std.specs.Prelude.{◌≡◌, length};
 ghost use Rattle.polyhedron.specs.steps.Answerable as Answerable;
 ghost use Rattle.polyhedron.specs.PointLists as PointLists;
 
-use crate::points::Prepared;
+use crate::points::PreparedTree;
 use math::Vec3;
 use mesh_questions::{Mesh, ask_finite};
 use refusal::Refusal;
@@ -30,7 +30,7 @@ pub fn ask_list(points: &[f64], places: usize) -> Result<(), Refusal>
 }
 
 // Writes the answer to each point.
-fn answer_points(prepared: &Prepared, points: &[f64], answers: &mut [u8])
+fn answer_points(prepared: &PreparedTree, points: &[f64], answers: &mut [u8])
     requires { Answerable.Answerable points.now (length answers.old) }
     ensures { answers.new ≡ PointLists.answers_to prepared.now points.now }
 {
@@ -54,7 +54,7 @@ pub fn contains_list(
     lent::floats(mesh.coords);
     let accepted = accept_tree(mesh, tree, work)?;
     ask_list(points, answers.len())?;
-    let prepared = Prepared::new(&accepted, work);
+    let prepared = PreparedTree::new(&accepted, work);
     answer_points(&prepared, points, answers);
     Ok(())
 }

@@ -8,6 +8,7 @@ ghost use Rattle.mesh_questions.specs.Faces.{faces};
 ghost use Rattle.edges.specs.Edges.{edge_keys};
 ghost use Rattle.scan.specs.Answers as Answers;
 ghost use Rattle.scan.specs.Scan as Scan;
+ghost use Rattle.polyhedron.specs.steps.Points as Points;
 
 use math::Vec3;
 use mesh::boxes::Bounds;
@@ -17,17 +18,34 @@ use tree::AcceptedTree;
 use walks::ray::{Heading, Ray, headings, ray_walk};
 use walks::surface::{Touch, surface_walk};
 
-// An accepted tree, and what is worked out once for a list of points. To a caller it is the mesh.
-#[derive(Drop)]
-pub struct Prepared<'t, 'a> {
-    tree: &'t AcceptedTree<'a>,
+// What is worked out once for a list of points, of the mesh and of the three directions.
+#[derive(Clone, Copy)]
+pub struct Prepared {
     // The grown box and the tolerance of the surface test.
-    bounds: Bounds,
-    closed: bool,
-    headings: [Heading; 3],
+    pub bounds: Bounds,
+    pub closed: bool,
+    pub headings: [Heading; 3],
 }
 
-impl<'t, 'a> Model for Prepared<'t, 'a> {
+// What is prepared of a mesh that is closed or not.
+pub fn prepare(coords: &[f64], closed: bool) -> Prepared
+    ensures { result ≡ Points.prepared coords.now closed }
+{
+    Prepared {
+        bounds: mesh::boxes::prepare(coords),
+        closed,
+        headings: headings(),
+    }
+}
+
+// An accepted tree, and what is prepared of it for a list of points. To a caller it is the mesh.
+#[derive(Drop)]
+pub struct PreparedTree<'t, 'a> {
+    tree: &'t AcceptedTree<'a>,
+    prepared: Prepared,
+}
+
+impl<'t, 'a> Model for PreparedTree<'t, 'a> {
     ghost use Rattle.mesh.specs.Mesh.{Mesh};
     ghost use Rattle.polyhedron.specs.steps.Points.{Right};
 
@@ -35,10 +53,10 @@ impl<'t, 'a> Model for Prepared<'t, 'a> {
 
     ghost view = { λ a. a.tree.now.mesh };
 
-    ghost invariant = { λ a. Right a.tree.now a.bounds a.closed a.headings };
+    ghost invariant = { λ a. Right a.tree.now a.prepared };
 }
 
-impl<'t, 'a> Prepared<'t, 'a> {
+impl<'t, 'a> PreparedTree<'t, 'a> {
     // What is worked out of a tree. The edges of its mesh are sorted in the work places.
     pub fn new(tree: &'t AcceptedTree<'a>, work: &mut [u64]) -> Self
         requires { length tree.now.mesh.corners ≤ length work.old }
@@ -47,11 +65,9 @@ impl<'t, 'a> Prepared<'t, 'a> {
     {
         let mesh = &tree.mesh;
         let closed = edges::keys_closed(mesh.corners, mesh.ends, work);
-        Prepared {
+        PreparedTree {
             tree,
-            bounds: mesh::boxes::prepare(mesh.coords),
-            closed,
-            headings: headings(),
+            prepared: prepare(mesh.coords, closed),
         }
     }
 
@@ -62,7 +78,7 @@ impl<'t, 'a> Prepared<'t, 'a> {
     {
         let tree = self.tree;
         let mut votes = Votes::default();
-        for heading in &self.headings {
+        for heading in &self.prepared.headings {
             if votes.ended() {
                 return votes;
             }
@@ -80,7 +96,7 @@ impl<'t, 'a> Prepared<'t, 'a> {
         requires { is_finite p ≡ true }
         ensures { Answers.byte result ≡ Scan.plain_scan self.now p }
     {
-        let bounds = self.bounds;
+        let bounds = self.prepared.bounds;
         if !bounds.grown.contains(p) {
             return Answer::Outside;
         }
@@ -91,7 +107,7 @@ impl<'t, 'a> Prepared<'t, 'a> {
         if surface_walk(self.tree, touch) {
             return Answer::Inside;
         }
-        if !self.closed {
+        if !self.prepared.closed {
             return Answer::Outside;
         }
         self.votes(p).majority()

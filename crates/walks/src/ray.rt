@@ -46,20 +46,26 @@ pub struct Heading {
 
 // A ray from a finite point: where it begins, and its heading. To a caller it is where it begins and its direction,
 // which say the rest.
-#[derive(Drop)]
+#[derive(Clone, Copy)]
 pub struct Ray {
     pub origin: Vec3,
     pub heading: Heading,
 }
 
 impl Model for Ray {
+    ghost use Rattle.walks.specs.steps.Casts as Casts;
     ghost use Rattle.walks.specs.steps.Casts.{Cast, Line};
+    ghost use Rattle.walks.specs.laws.CastLaws.{heading_kept};
 
     ghost Value = { Line };
 
     ghost view = { λ r. record { origin = r.origin; direction = r.heading.direction } };
 
     ghost invariant = { λ r. Cast r.origin r.heading.direction r.heading.inverse r.heading.near };
+
+    ghost inverse = { λ l. record { origin = l.origin; heading = Casts.heading l.direction } };
+
+    ghost inverse_ok = { λ r cast i. record { origin = r.origin; heading = heading_kept cast i } };
 }
 
 // Direction `k`.

@@ -1,6 +1,6 @@
--- `Prepared::new` meets its contract: the corners of an accepted mesh are below 65,536.
+-- `PreparedTree::new` meets its contract: the corners of an accepted mesh are below 65,536.
 use Rattle.edges.specs.laws.EdgeLaws.{accepted_below}
-use Rattle.polyhedron.proofs.points.Prepared.new.Goals as goal
+use Rattle.polyhedron.proofs.points.PreparedTree.new.Goals as goal
 
 pub keys_closed-closed-requires : goal.keys_closed-closed-requires
 keys_closed-closed-requires c =
@@ -13,7 +13,5 @@ invariant_of-result c =
     (← c.tree.view_is)
     (record {
       ready = record { accepted = c.tree.invariant.0; rules = c.tree.invariant.1 };
-      bounds = rw (← c.mesh.view_is) c.prepare.ensures;
-      closed = rw (← c.mesh.view_is) c.keys_closed-closed.ensures.0;
-      headings = c.headings.ensures;
+      prepared = rw (← c.mesh.view_is) (rw c.keys_closed-closed.ensures.0 at c.prepare.ensures);
     })
