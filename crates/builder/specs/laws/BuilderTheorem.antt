@@ -197,4 +197,4 @@ few_rules m few =
 
 -- the tree that the builder makes of an accepted mesh keeps the tree rules
 pub layout_rules : (m : Mesh) → Accepted m.coords m.corners m.ends → TreeRules m (layout m)
-layout_rules m a = few_rules m (omega (arith, a.lengths.few))
+layout_rules m a = few_rules m (omega (arith, a.limit))

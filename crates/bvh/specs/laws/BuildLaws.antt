@@ -30,7 +30,7 @@ use Rattle.bvh.specs.Build.{tree_room, ask_build, build_verdict, Builds}
 
 -- the triangles of an accepted mesh are few
 pub few_triangles : {m : Mesh} → Accepted m.coords m.corners m.ends → triangle_count m ≤ 262144
-few_triangles {m} a = omega (arith, a.lengths.few)
+few_triangles {m} a = omega (arith, a.limit)
 
 -- numbers from 0 on are sorted
 sorted_numbers : (n : ℕ) → sorted (numbers 0 n) ≡ numbers 0 n

@@ -59,7 +59,7 @@ below_parts m lengths =
 pub below_mesh : (m : Mesh) → Below (ask_mesh m.coords m.corners m.ends)
 unfolding ask_mesh
 below_mesh m =
-    below_then (ask_lengths m.coords m.corners m.ends) (ask_parts m.coords m.corners m.ends) (below_lengths m) (λ e. below_parts m (lengths_of m.coords m.corners m.ends e))
+    below_then (ask_lengths m.coords m.corners m.ends) (ask_parts m.coords m.corners m.ends) (below_lengths m) (λ e. below_parts m (lengths_of m.coords m.corners m.ends e).0)
 
 -- and 6
 pub below_room : (m : Mesh) (passed : Bool) → Below (then (ask_mesh m.coords m.corners m.ends) (ask passed Refusals.Room))

@@ -24,20 +24,14 @@ wide_corners start corners [] fit wide =
 wide_corners start corners (end ∷ rest) fit wide = omega (arith, wide.0, wide_corners end corners rest (both (leb start end) (ends_fit end corners rest) fit).1 wide.1)
 
 -- questions 1 and 2
-pub lengths_of : (coords : List Float) (corners ends : List ℕ) → ask_lengths coords corners ends ≡ Passed → Lengths coords corners ends
+pub lengths_of : (coords : List Float) (corners ends : List ℕ) → ask_lengths coords corners ends ≡ Passed → Lengths coords corners ends × (length corners ≤ 262144)
 unfolding ask_lengths whole_vertices faces_fit
 lengths_of coords corners ends e =
     let parts = then_passed _ _ e in
     let whole = both _ _ (ask_passed _ _ parts.0) in
     let fits = both _ _ (ask_passed _ _ parts.1) in
     let few = both _ _ fits.0 in
-    record {
-      vertices = leb-true _ _ whole.1;
-      whole = eqb-true _ _ whole.0;
-      faces = leb-true _ _ few.0;
-      few = leb-true _ _ few.1;
-      fit = fits.1;
-    }
+    (record { vertices = leb-true _ _ whole.1; whole = eqb-true _ _ whole.0; faces = leb-true _ _ few.0; fit = fits.1 }, leb-true _ _ few.1)
 
 -- question 3: each face is wide
 pub wide_of : (vertices number start : ℕ) (corners ends : List ℕ) → ends_fit start (length corners) ends ≡ true → ask_faces vertices number (faces_from start corners ends) ≡ Passed → Wide start ends
@@ -95,11 +89,13 @@ pub accepted : (coords : List Float) (corners ends : List ℕ) → ask_mesh coor
 unfolding ask_mesh ask_parts faces
 accepted coords corners ends e =
     let parts = then_passed _ _ e in
-    let lengths = lengths_of coords corners ends parts.0 in
+    let first = lengths_of coords corners ends parts.0 in
+    let lengths = first.0 in
     let rest = then_passed _ _ parts.1 in
     let origin : Vec3 = Vectors.vec nan nan nan in
     record {
       lengths = lengths;
+      limit = first.1;
       wide = wide_of (length coords / 3) 0 0 corners ends lengths.fit rest.0;
       below = λ i h. below_of (length coords / 3) 0 0 corners ends lengths.fit rest.0 i (omega arith) h;
       finite = λ v h. rw (VectorLaws.get_d_points coords v origin h) at (finite_of NotFinite 0 (Vectors.points coords) v origin rest.1 (rw (VectorLaws.length_points coords) h));
@@ -123,4 +119,4 @@ asked coords corners ends found e =
 
 -- an accepted mesh has these facts
 pub fanned : {coords : List Float} {corners ends : List ℕ} → Accepted coords corners ends → Fanned corners ends
-fanned a = record { faces = a.lengths.faces; few = omega (arith, a.lengths.few); fit = a.lengths.fit; wide = a.wide }
+fanned a = record { faces = a.lengths.faces; few = omega (arith, a.limit); fit = a.lengths.fit; wide = a.wide }

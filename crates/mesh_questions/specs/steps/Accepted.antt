@@ -7,12 +7,11 @@ use Rattle.mesh_questions.specs.declared.Counts.{Counts}
 use Rattle.mesh_questions.specs.Mesh.{mesh, triangle_count}
 use Rattle.mesh_questions.specs.MeshQuestions.{ends_fit, ask_mesh}
 
--- what holds of a mesh that passes 1 and 2
+-- what holds of a mesh that passes 1 and 2, whatever the corner limit
 pub record Lengths (coords : List Float) (corners ends : List ℕ) : Type 0 where
   pub vertices : length coords / 3 ≤ 65536
   pub whole : length coords % 3 ≡ 0
   pub faces : length ends ≤ 65536
-  pub few : length corners ≤ 262144
   pub fit : ends_fit 0 (length corners) ends ≡ true
 
 -- vertices, faces and triangles of an accepted mesh
@@ -32,6 +31,7 @@ Wide start (end ∷ rest) = (start + 3 ≤ end) × Wide end rest
 -- the facts of an accepted mesh
 pub record Accepted (coords : List Float) (corners ends : List ℕ) : Type 0 where
   pub lengths : Lengths coords corners ends
+  pub limit : length corners ≤ 262144
   pub wide : Wide 0 ends
   pub below : (i : ℕ) → i < length corners → get_or corners i 0 < length coords / 3
   pub finite : (v : ℕ) → v < length coords / 3 → Vectors.is_finite (Vectors.at coords (3 * v)) ≡ true

@@ -58,7 +58,7 @@ faces_fit_rewritten {m} {m'} a r =
     let corners' : length m'.corners ≡ length (flatten order) = rw (r.corners, flatten_renumbered r.new order) (length-map (flatten order) r.new) in
     let corners : length (flatten order) ≡ length m.corners = sym (flatten_reordered r.reordered) ∙ ap length (flatten_faces m.corners m.ends a.lengths.fit) in
     let fit : ends_fit 0 (length m'.corners) m'.ends ≡ true = rw r.ends (ends_of_fit 0 order (length m'.corners) (omega arith)) in
-    rw (fit, le-leb (length m'.ends) 65536 (omega (arith, a.lengths.faces)), le-leb (length m'.corners) 262144 (omega (arith, a.lengths.few)))
+    rw (fit, le-leb (length m'.ends) 65536 (omega (arith, a.lengths.faces)), le-leb (length m'.corners) 262144 (omega (arith, a.limit)))
 
 -- ---- questions 3 to 5
 

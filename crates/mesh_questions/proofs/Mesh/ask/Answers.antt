@@ -8,7 +8,7 @@ use Rattle.mesh_questions.specs.laws.AcceptedLaws.{wide_corners, lengths_of, acc
 use Rattle.mesh_questions.proofs.Mesh.ask.Goals as goal
 
 pub ask_parts-requires : goal.ask_parts-requires
-ask_parts-requires c = lengths_of _ _ _ (sym c.in_ok-ask_lengths.ensures)
+ask_parts-requires c = (lengths_of _ _ _ (sym c.in_ok-ask_lengths.ensures)).0
 
 pub overflow_sub-result : goal.overflow_sub-result
 unfolding ask_mesh
