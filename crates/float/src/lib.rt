@@ -69,11 +69,12 @@ pub fn clamp(x: f64, lo: f64, hi: f64) -> f64
     if hi < y { hi } else { y }
 }
 
-// Whether `x` is neither infinite nor a NaN. (`f64::is_finite`, which is stated here as document 01's rule.)
+// Whether `x` is neither infinite nor a NaN: of an infinity or a NaN `x - x` is a NaN, and of any other value it is zero.
+// It is not `f64::is_finite`, which compares that with zero: in a loop over a list that takes a jump more an item.
 pub fn is_finite(x: f64) -> bool
     ensures { result ≡ Rules.is_finite x }
 {
-    x.is_finite()
+    !(x - x).is_nan()
 }
 
 // `a % b`, moved up by |b| where it is negative. (`f64::rem_euclid` calls C's `fmod`, which `remainder` is here to
