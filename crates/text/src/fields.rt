@@ -64,7 +64,8 @@ fn magnitude_of(negative: bool, bytes: &[u8]) -> Option<Number>
     })
 }
 
-// What a field says.
+// What a field says. It is put where it is called, as `number_at` is: there its loops know how wide the field is.
+#[inline(always)]
 pub fn read_field(field: &[u8]) -> Option<Number>
     requires { length field.now ≤ 18 }
     ensures { result ≡ Fields.field_of field.now }
