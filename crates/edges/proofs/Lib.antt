@@ -1,2 +1,2 @@
 mod Filling
-mod Runs
+mod Pairing

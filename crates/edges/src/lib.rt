@@ -61,11 +61,20 @@ pub fn edge_keys(corners: &[u32], ends: &[u32], work: &mut [u64])
     keys::sort(&mut work[..n]);
 }
 
-// Whether the keys, in ascending order, stand in pairs: each exactly twice.
+// Whether the keys, in ascending order, stand in pairs: each exactly twice. The loop stops at a third equal key: `chunk_by`
+// would go to the end of a run, however long, before its length is asked.
+#[tactic(auto, unfolding(crate::specs::steps::Pairs::in_pairs))]
 fn in_pairs(keys: &[u64]) -> bool
     ensures { result ≡ in_pairs keys.now }
 {
-    keys.chunk_by(|a, b| a == b).all(|run| run.len() == 2)
+    let mut rest = keys;
+    while let [first, second, tail @ ..] = rest {
+        if first != second || tail.first() == Some(first) {
+            return false;
+        }
+        rest = tail;
+    }
+    rest.is_empty()
 }
 
 // Whether a mesh is closed: it has so many faces, and these are the keys of its edges in ascending order. A key

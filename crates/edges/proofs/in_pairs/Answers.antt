@@ -1,12 +1,18 @@
--- `in_pairs` meets its contract: each run of equal keys has two of them.
-use Rattle.std.proofs.Common.{◌∙◌, rules, tests}
-use Rattle.std.proofs.lemmas.Iterator.Search.{all_from_yields_List}
-use Rattle.std.proofs.lemmas.List.Sorted.{answers_always}
-use Rattle.edges.proofs.Runs.{two, runs_given, runs_of_two}
+use Rattle.std.proofs.Common.{arith}
+use Rattle.std.proofs.lemmas.Bool.Decides.{nat_tests}
+use Rattle.edges.proofs.Pairing.{in_pairs_two, first_is}
 use Rattle.edges.proofs.in_pairs.Goals as goal
+use Rattle.edges.proofs.in_pairs.Goals.{then-first-second-via-then-first-second, then-first-second-via-else-first-second+then-eq}
 
-pub returns : goal.returns
-unfolding two
-returns c =
-    let keys = c.args.keys.now in
-    all_from_yields_List two _ _ _ c.all.ensures.ran (runs_given _ keys (answers_always _ _ _ (λ f a r f' k. search (rules, tests))) c.chunk_by.ensures.rest) (λ x b q k. search (rules, tests)) ∙ runs_of_two keys
+pub returns-then-first-second : goal.returns-then-first-second
+returns-then-first-second c =
+    let two = in_pairs_two c.loop-rest.rest.now c.in-len2-up.len_at_least in
+    elim c.then-first-second.branch [
+      | then-first-second-via-then-first-second w ↦ grind (arith, nat_tests, two)
+      | then-first-second-via-else-first-second+then-eq w ↦ grind (arith, nat_tests, two, first_is _ _ _ _ w.first.ensures.value w.eq.ensures)
+    ]
+
+pub loop-rest-preserved : goal.loop-rest-preserved
+loop-rest-preserved c =
+    let two = in_pairs_two c.loop-rest.rest.now c.in-len2-up.len_at_least in
+    grind (arith, nat_tests, two, first_is _ _ _ _ c.first.ensures.value c.eq.ensures)
